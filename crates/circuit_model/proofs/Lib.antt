@@ -1,0 +1,2 @@
+pub mod Monotony
+pub mod Rounds

@@ -1,0 +1,10 @@
+// What a circuit is, and what follows from assumptions about it.
+#![tactic(auto)]
+
+mod laws;
+mod model;
+
+pub use laws::{
+    fewer_assumptions_close_less, forced_facts_follow, part_of_a_consistent_environment,
+};
+pub use model::{Assumption, Cell, Fact, Instance, Part, Primitive as Prim};

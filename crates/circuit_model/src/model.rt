@@ -1,0 +1,88 @@
+// Words, cells, facts and assumptions.
+
+ghost use Rattle.std.specs.Prelude.{◌≡◌, ◌<◌, length, slice_get, Some};
+ghost use Rattle.circuit_model.specs.Lawful.{IsLawful};
+
+use std::marker::Model;
+use word_domain::Width;
+
+/// A net at a cycle.
+#[derive(Clone, Copy, PartialEq, Eq, Debug)]
+pub struct Cell {
+    pub net: u16,
+    pub cycle: u8,
+}
+
+/// A word at a cell.
+#[derive(Clone, Copy, PartialEq, Eq, Debug)]
+pub struct Fact {
+    pub cell: Cell,
+    pub value: u64,
+}
+
+/// A kind of relation between the words at ports.
+#[derive(Clone, Copy, PartialEq, Eq, Debug)]
+pub enum Primitive {
+    Buf,
+    Not,
+    And,
+    Or,
+    Xor,
+    Nand,
+    Nor,
+    Xnor,
+    Add,
+    Mul,
+    Const { value: u64 },
+}
+
+/// A relation between the words at some cells.
+#[derive(Clone, Copy, PartialEq, Eq, Debug)]
+pub struct Instance {
+    pub prim: Primitive,
+    pub ports: u8,
+    pub cells: [Cell; 3],
+    pub widths: [Width; 3],
+}
+
+/// The relations that a component stands for.
+#[derive(Drop)]
+pub struct Part {
+    instances: Vec<Instance>,
+}
+
+impl Model for Part {
+    ghost use Rattle.std.specs.Prelude.{List};
+    ghost use Rattle.circuit_model.specs.declared.model.Instance.{Instance};
+
+    ghost Value = { List Instance };
+
+    ghost use Rattle.circuit_model.specs.Lawful.{AreLawful};
+
+    ghost view = { λ p. p.instances.items };
+
+    ghost invariant = { λ p. AreLawful p.instances.items };
+}
+
+impl Part {
+    pub fn len(&self) -> usize
+        ensures { result ≡ length self.now }
+    {
+        self.instances.len()
+    }
+
+    pub fn at(&self, place: usize) -> &Instance
+        requires { place < length self.now }
+        ensures instance { slice_get self.now place ≡ Some result.now }
+        ensures lawful { IsLawful result.now }
+    {
+        &self.instances[place]
+    }
+}
+
+/// What may be assumed: that a component works, or that a cell was seen to have a word.
+#[derive(Drop)]
+pub enum Assumption {
+    Part(Part),
+    Reading(Fact),
+}

@@ -1,0 +1,2 @@
+// Sets of names, their order, and lists of them.
+#![tactic(auto)]

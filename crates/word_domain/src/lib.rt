@@ -1,0 +1,6 @@
+// Widths, and arithmetic on words of a width.
+#![tactic(auto)]
+
+mod width;
+
+pub use width::Width;
