@@ -1,0 +1,5 @@
+pub mod Lines
+pub mod Words
+pub mod Runs
+pub mod Sessions
+pub mod Running
