@@ -3,3 +3,5 @@ pub mod Words
 pub mod Runs
 pub mod Sessions
 pub mod Running
+pub mod Serving
+pub mod Causes

@@ -1,8 +1,7 @@
 -- Lines of bytes that are known in parts.
-use Rattle.std.proofs.Common.{◌≡◌, ◌≢◌, ◌⊎◌, ℕ, ◌+◌, ◌-◌, ◌≤◌, ◌<◌, ◌==◌, Bool, true, false, cond, List, [], ◌∷◌, ◌++◌, length, take, drop, Option, Some, None, refl, sym, ◌∙◌, ap, subst, append_assoc, arith, inl, inr, length-append, length-take, nat_lt}
+use Rattle.std.proofs.Common.{◌≡◌, ◌≢◌, ℕ, ◌+◌, ◌-◌, ◌≤◌, ◌<◌, ◌==◌, Bool, true, false, List, [], ◌∷◌, ◌++◌, length, take, refl, sym, ◌∙◌, ap, append_assoc, arith, length-append, nat_lt}
 use Rattle.std.proofs.Math.Seq.{take-append-add}
-use Rattle.std.proofs.lemmas.Grind.{common_steps}
-use Rattle.bench_io.specs.Lines.{MOST_BYTES, lines_of, whole_lines_of, session_lines, HasNoNewline, onto_first, onto_whole}
+use Rattle.bench_io.specs.Lines.{MOST_BYTES, lines_of, whole_lines_of, session_lines, HasNoNewline}
 use Rattle.bench_cli.specs.Turns.{Cuts}
 
 pub append-nil : {A : Type 0} (xs : List A) → xs ++ [] ≡ xs

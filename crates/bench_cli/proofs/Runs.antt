@@ -1,6 +1,6 @@
 -- Runs that grow by one line.
-use Rattle.std.proofs.Common.{◌≡◌, ◌≢◌, ◌⊎◌, ℕ, ◌+◌, ◌-◌, ◌≤◌, ◌<◌, Bool, true, false, ◌||◌, List, [], ◌∷◌, ◌++◌, length, refl, sym, ◌∙◌, ap, subst, append_assoc, arith, inl, inr}
-use Rattle.bench_cli.specs.Replies.{Reply, Exchange, text_of, transcript, lines_of_exchanges, has_refused, has_no_memory, is_refused, is_no_memory}
+use Rattle.std.proofs.Common.{◌≡◌, ℕ, Bool, true, false, ◌||◌, List, [], ◌∷◌, ◌++◌, refl, sym, ◌∙◌, ap, subst, append_assoc}
+use Rattle.bench_cli.specs.Replies.{Exchange, text_of, transcript, lines_of_exchanges, has_refused, has_no_memory, is_refused, is_no_memory}
 use Rattle.bench_cli.specs.State.{State, Run, Takes}
 
 pub Run-more : (s t u : State) (es : List Exchange) (e : Exchange) → Run s es t → Takes t e.line e.reply u → Run s (es ++ e ∷ []) u

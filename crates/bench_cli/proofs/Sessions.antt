@@ -1,19 +1,16 @@
 -- A session so far, and how it ends.
-use Rattle.std.proofs.Common.{◌≡◌, ◌≢◌, ◌⊎◌, ℕ, ◌+◌, ◌-◌, ◌≤◌, ◌<◌, Bool, true, false, ◌||◌, if◌then◌else◌, List, [], ◌∷◌, ◌++◌, length, take, drop, Option, Some, None, Ok, Err, refl, sym, ◌∙◌, ap, subst, append_assoc, arith, inl, inr, length-append}
-use Rattle.std.specs.Io.KnownBytes.{Appends, Consumes, IsAtEnd, Keeps}
+use Rattle.std.proofs.Common.{◌≡◌, ◌≢◌, ◌⊎◌, ℕ, ◌+◌, ◌≤◌, ◌<◌, Bool, true, false, ◌||◌, List, [], ◌∷◌, ◌++◌, length, take, drop, Option, Some, None, Ok, Err, refl, sym, ◌∙◌, ap, subst, append_assoc, arith, inl, inr, length-append}
+use Rattle.std.specs.Io.KnownBytes.{Appends, Consumes, IsAtEnd}
 use Rattle.std.proofs.Math.Seq.{take-append_seam, drop-append_seam}
-use Rattle.bench_io.specs.Causes.{Rose}
 use Rattle.bench_io.specs.Lines.{MOST_BYTES, HasNoNewline, lines_of, whole_lines_of, session_lines}
-use Rattle.bench_io.specs.Reading.{Reading, Begins, lines_ahead}
+use Rattle.bench_io.specs.Reading.{Reading, lines_ahead}
 use Rattle.bench_io.proofs.Bytes.{Consumes-then, Consumes-nothing, Appends-then}
-use Rattle.bench_cli.specs.Replies.{Reply, Exchange, text_of, transcript, lines_of_exchanges, has_refused, has_no_memory, is_refused, is_no_memory}
-use Rattle.bench_cli.specs.State.{State, Run, empty}
+use Rattle.bench_cli.specs.Replies.{Exchange, text_of, transcript, lines_of_exchanges, has_refused, has_no_memory, is_refused, is_no_memory}
+use Rattle.bench_cli.specs.State.{State, empty}
 use Rattle.bench_cli.specs.Answers.{reply_of}
-use Rattle.bench_cli.specs.Turns.{Steps, Answered, ReadSofar, Cuts, ending_of, tally_after}
+use Rattle.bench_cli.specs.Turns.{Steps, ReadSofar, Cuts, ending_of, tally_after}
 use Rattle.bench_cli.specs.Session.{ReadsAll, ReadsTo, ReadsMost, ReadsSome, WhereTold, AnswersAll, Outcome, WritesPart}
 use Rattle.bench_cli.specs.Statuses.{status_by}
-use Rattle.bench_cli.specs.declared.Status.{Status}
-use Rattle.bench_cli.specs.declared.Status.TheVariants as status
 use Rattle.bench_cli.specs.declared.session.Tally.{Tally}
 use Rattle.bench_cli.specs.declared.session.Stop.{Stop}
 use Rattle.bench_cli.specs.declared.session.Stop.TheVariants as stop

@@ -1,9 +1,9 @@
 -- Words and numbers of a line.
-use Rattle.std.proofs.Common.{◌≡◌, ◌≢◌, ◌⊎◌, ℕ, ◌+◌, ◌-◌, ◌*◌, ◌^◌, ◌≤◌, ◌<◌, Bool, true, false, List, [], ◌∷◌, ◌++◌, length, take, drop, get_or, refl, sym, ◌∙◌, ap, subst, arith, suc, zero, add-one, take-append-drop, drop-cons}
+use Rattle.std.proofs.Common.{◌≡◌, ℕ, ◌+◌, ◌-◌, ◌*◌, ◌^◌, ◌≤◌, ◌<◌, true, false, List, [], ◌∷◌, ◌++◌, length, take, get_or, refl, sym, ◌∙◌, ap, arith, add-one}
 use Rattle.std.proofs.lemmas.List.{take_more}
 use Rattle.std.proofs.Math.Nat.{pow-succ'}
-use Rattle.bench_cli.specs.Grammar.{words_of, pieces_of, without_empty, onto_piece, is_blank, number_after}
-use Rattle.bench_cli.specs.Reading.{AreBlanks, HasNoBlank, BeginsBlank, BeginsWord, SkipsBlanks, EndsWord, FindsWord}
+use Rattle.bench_cli.specs.Grammar.{words_of, pieces_of, without_empty, is_blank, number_after}
+use Rattle.bench_cli.specs.Reading.{AreBlanks, HasNoBlank, BeginsBlank, BeginsWord}
 
 pub true_false : true ≡ false → ⊥
 true_false e = cc

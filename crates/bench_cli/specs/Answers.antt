@@ -1,5 +1,5 @@
 -- The replies that answers stand for.
-use Rattle.std.specs.Prelude.{List, []}
+use Rattle.std.specs.Prelude.{[]}
 use Rattle.bench_cli.specs.Replies.{Reply, Told, Refused, NoMemory}
 use Rattle.bench_cli.specs.declared.replies.Answer.{Answer}
 use Rattle.bench_cli.specs.declared.replies.Answer.TheVariants as answer

@@ -1,5 +1,5 @@
 -- How a line is read.
-use Rattle.std.specs.Prelude.{◌≡◌, ◌⊎◌, ℕ, ◌+◌, ◌-◌, ◌*◌, ◌==◌, ◌≤◌, ◌<◌, Bool, true, false, ◌||◌, if◌then◌else◌, List, [], ◌∷◌, ◌++◌, codes, length, take}
+use Rattle.std.specs.Prelude.{◌≡◌, ◌⊎◌, ℕ, ◌+◌, ◌-◌, ◌*◌, ◌==◌, ◌≤◌, ◌<◌, Bool, ◌||◌, if◌then◌else◌, List, [], ◌∷◌, codes, length, take}
 use Rattle.std.specs.List.{All}
 use Rattle.bench_io.specs.Lines.{LONGEST}
 

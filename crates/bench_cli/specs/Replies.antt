@@ -1,5 +1,5 @@
 -- What lines are answered.
-use Rattle.std.specs.Prelude.{◌≡◌, ℕ, Bool, true, false, ◌||◌, List, [], ◌∷◌, ◌++◌, codes, decimal}
+use Rattle.std.specs.Prelude.{ℕ, Bool, true, false, ◌||◌, List, [], ◌∷◌, ◌++◌, codes, decimal}
 use Rattle.bench_cli.specs.declared.replies.Refusal.{Refusal}
 use Rattle.bench_cli.specs.declared.replies.Refusal.TheVariants.{NotBuilt}
 

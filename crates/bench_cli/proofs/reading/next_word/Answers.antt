@@ -1,4 +1,4 @@
-use Rattle.std.proofs.Common.{arith, rules, sym, ◌∙◌, ◌≡◌, ◌<◌, ◌++◌, ap, subst, ℕ, List, take, drop, length, length-take, take-append-drop}
+use Rattle.std.proofs.Common.{arith, sym, ◌∙◌, ◌<◌, ap, subst, ℕ, take, drop, length, length-take, take-append-drop}
 use Rattle.bench_io.proofs.Bytes.{take_rest}
 use Rattle.bench_cli.specs.Grammar.{words_of}
 use Rattle.bench_cli.specs.Reading.{BeginsBlank}

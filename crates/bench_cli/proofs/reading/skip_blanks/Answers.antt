@@ -1,5 +1,4 @@
-use Rattle.std.proofs.Common.{arith, rules, sym, ◌∙◌, ◌≡◌, true, not}
-use Rattle.bench_cli.specs.Grammar.{is_blank}
+use Rattle.std.proofs.Common.{arith, rules, sym, ◌∙◌}
 use Rattle.bench_cli.proofs.Words.{AreBlanks-more}
 use Rattle.bench_cli.proofs.reading.skip_blanks.Goals as goal
 

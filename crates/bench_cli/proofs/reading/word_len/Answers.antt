@@ -1,4 +1,4 @@
-use Rattle.std.proofs.Common.{arith, rules, sym, ◌∙◌}
+use Rattle.std.proofs.Common.{arith, sym, ◌∙◌}
 use Rattle.bench_cli.proofs.Words.{HasNoBlank-more}
 use Rattle.bench_cli.proofs.reading.word_len.Goals as goal
 

@@ -1,18 +1,16 @@
-use Rattle.std.proofs.Common.{arith, rules, refl, ◌≡◌, ◌∙◌, ap, List, [], ◌∷◌, ℕ, sym, subst, ◌++◌}
-use Rattle.std.specs.Io.KnownBytes.{Appends}
+use Rattle.std.proofs.Common.{arith, refl, [], ◌∷◌, sym, subst, ◌++◌}
 use Rattle.bench_io.proofs.Bytes.{Appends-nothing}
-use Rattle.bench_cli.specs.Replies.{transcript, Exchange}
+use Rattle.bench_cli.specs.Replies.{Exchange}
 use Rattle.bench_cli.specs.Answers.{reply_of}
 use Rattle.bench_cli.specs.Turns.{ReadSofar}
-use Rattle.bench_cli.specs.Session.{Outcome}
-use Rattle.bench_cli.specs.State.{empty}
+use Rattle.bench_cli.specs.State.{State}
 use Rattle.bench_cli.proofs.Sessions.{begun, stepped, ahead_falls, reads_some, outcome_of, writes_part, writes_whole, noted_refused, noted_no_memory}
 use Rattle.bench_cli.proofs.session.run.Goals as goal
 
 pub loop-answer-init : goal.loop-answer-init
 loop-answer-init g c = record {
   exchanges = [];
-  read = let P : List ℕ → Type 0 = λ s. ReadSofar [] (g.S.Source.left c.args.source.now) (g.S.Source.left c.args.source.now) (g.S.Source.faults c.args.source.now) (g.S.Source.faults c.args.source.now) c.in-Ok.reader s in
+  read = let P : State → Type 0 = λ s. ReadSofar [] (g.S.Source.left c.args.source.now) (g.S.Source.left c.args.source.now) (g.S.Source.faults c.args.source.now) (g.S.Source.faults c.args.source.now) c.in-Ok.reader s in
       subst P (sym c.new-bench.ensures) (begun _ _ c.in-Ok.reader c.in-Ok.ensures.0 c.in-Ok.ensures.1 c.in-Ok.ensures.2 c.in-Ok.ensures.3);
   written = Appends-nothing _;
   sink_later = omega arith;

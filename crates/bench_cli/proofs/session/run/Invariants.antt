@@ -1,4 +1,3 @@
-use Rattle.std.proofs.Common.{length, ◌+◌, ◌-◌}
 use Rattle.bench_cli.specs.Turns.{Sofar}
 use Rattle.bench_io.specs.Reading.{lines_ahead}
 use Rattle.bench_cli.proofs.session.run.Given as goal
