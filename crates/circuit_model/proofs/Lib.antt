@@ -1,2 +1,3 @@
 pub mod Monotony
 pub mod Rounds
+pub mod Paddings
