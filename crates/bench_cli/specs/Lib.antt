@@ -1,6 +1,7 @@
 pub mod Statuses
 pub mod Words
 pub mod Grammar
+pub mod Requests
 pub mod Reading
 pub mod Replies
 pub mod Answers

@@ -10,6 +10,7 @@ ghost use Rattle.bench_cli.specs.Words.{IsRun, TellsUsage};
 
 mod reading;
 mod replies;
+mod requests;
 mod session;
 mod state;
 #[cfg(test)]
