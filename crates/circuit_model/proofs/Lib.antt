@@ -1,3 +1,5 @@
 pub mod Monotony
 pub mod Rounds
 pub mod Paddings
+pub mod Presents
+pub mod Readings

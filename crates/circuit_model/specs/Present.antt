@@ -1,12 +1,11 @@
 -- The present: a circuit with its standing measurements.
-use Rattle.std.specs.Prelude.{◌≡◌, ℕ, ◌+◌, ◌*◌, ◌^◌, ◌<◌, ◌≤◌, ◌==◌, Bool, true, ◌||◌, ◌&&◌, nat_lt, if◌then◌else◌, List, [], ◌∷◌, ◌++◌, length, map, slice_index, Option, Some, None, IsTrue}
+use Rattle.std.specs.Prelude.{◌≡◌, ℕ, ◌*◌, ◌^◌, ◌<◌, ◌≤◌, ◌==◌, Bool, ◌||◌, ◌&&◌, nat_lt, if◌then◌else◌, List, [], ◌∷◌, ◌++◌, length, map, slice_index, Option, Some, None, IsTrue}
 use Rattle.std.specs.List.{All, position}
 use Rattle.std.specs.Str.{bytes_eq}
 use Rattle.std.specs.Option.{option_map}
 use Rattle.environment_sets.specs.Lists.{IsRising, AreDistinct}
 use Rattle.circuit_model.specs.declared.model.Cell.{Cell}
 use Rattle.circuit_model.specs.declared.model.Fact.{Fact}
-use Rattle.circuit_model.specs.declared.model.Instance.{Instance}
 use Rattle.circuit_model.specs.declared.present.Component.{Component}
 use Rattle.circuit_model.specs.declared.present.Net.{Net}
 use Rattle.circuit_model.specs.declared.present.Named.{Named}
@@ -82,6 +81,16 @@ reading_in (f ∷ readings) c = if is_cell f.cell c then Some f.value else readi
 abbrev pub with_reading : Fact → List Fact → List Fact
 with_reading f [] = f ∷ []
 with_reading f (g ∷ readings) = if is_cell_before f.cell g.cell then f ∷ g ∷ readings else g ∷ with_reading f readings
+
+-- The changes of a present: one more net, component or measurement.
+abbrev pub with_net : Net → Setup → Setup
+with_net n s = record s { nets = s.nets ++ n ∷ [] }
+
+abbrev pub with_part : Component → Setup → Setup
+with_part c s = record s { parts = s.parts ++ c ∷ [] }
+
+abbrev pub with_standing : Fact → Setup → Setup
+with_standing f s = record s { readings = with_reading f s.readings }
 
 -- the nets are there, three places of them; their widths and the kind's value are lawful, and the part is the one by the rules
 pub record IsLawfulComponent (s : Setup) (c : Component) : Type 0 where

@@ -12,4 +12,4 @@ pub use laws::{
 };
 pub use model::{Assumption, Cell, Fact, Instance, Kind, Part, Primitive as Prim};
 pub use name::Name;
-pub use present::{Component, Named};
+pub use present::{Component, Named, Net, Present};

@@ -6,8 +6,8 @@ ghost use Rattle.circuit_model.specs.Lawful.{IsLawful};
 use std::marker::Model;
 use word_domain::Width;
 
-/// A net at a cycle.
-#[derive(Clone, Copy, PartialEq, Eq, Debug)]
+/// A net at a cycle. Cells go by net, then by cycle.
+#[derive(Clone, Copy, PartialEq, Eq, PartialOrd, Ord, Debug)]
 pub struct Cell {
     pub net: u16,
     pub cycle: u8,

@@ -1,8 +1,12 @@
 // The circuit and its standing measurements.
 
-ghost use Rattle.std.specs.Prelude.{◌≡◌, ◌≤◌, ◌<◌, ◌+◌, ◌*◌, ◌++◌, ◌∷◌, [], length, slice_get, Some, None, IfOk, OnOk, OnErr};
-ghost use Rattle.circuit_model.specs.Present.{MOST_NETS, MOST_CELLS, MOST_PARTS, MOST_READINGS, empty_setup, named_in, reading_in, with_reading, IsLawful, IsLawfulComponent, IsFactOf};
+ghost use Rattle.std.specs.Prelude.{◌≡◌, ◌≤◌, ◌<◌, ◌+◌, ◌*◌, ◌++◌, ◌∷◌, [], length, slice_get, Some, None, IfOk, OnOk, OnErr, IsTrue};
+ghost use Rattle.std.specs.List.{insert, position};
+ghost use Rattle.std.specs.Str.{bytes_eq};
+ghost use Rattle.circuit_model.specs.Names.{is_name};
+ghost use Rattle.circuit_model.specs.Present.{MOST_NETS, MOST_CELLS, MOST_PARTS, MOST_READINGS, empty_setup, named_in, is_cell, is_cell_before, reading_in, with_reading, with_net, with_part, with_standing, IsLawful, IsLawfulComponent, IsFactOf};
 
+use crate::limits;
 use crate::model::{Cell, Fact, Kind, Part};
 use crate::name::Name;
 use std::alloc::{AllocError, Global};
@@ -67,7 +71,7 @@ impl Present {
             cycles: 1,
             nets: Vec::new(alloc),
             parts: Vec::new(alloc),
-            readings: Vec::with_capacity(alloc, 64)?,
+            readings: Vec::with_capacity(alloc, limits::MOST_READINGS as usize)?,
         })
     }
 
@@ -95,4 +99,171 @@ impl Present {
         let net = self.nets[place as usize];
         (net.name, net.width)
     }
+
+    /// What has the name.
+    pub fn find(&self, name: &Name) -> Option<Named>
+        ensures { result ≡ named_in self.now name.now }
+    {
+        match net_named(&self.nets, name) {
+            Some(net) => Some(Named::Net(net)),
+            None => part_named(&self.parts, name).map(Named::Part),
+        }
+    }
+
+    /// The number of components.
+    pub fn parts(&self) -> u16
+        ensures value { result ≡ length self.now.parts }
+        ensures lawful { IsLawful self.now }
+    {
+        self.parts.len() as u16
+    }
+
+    /// A component by its place.
+    pub fn part_at(&self, place: u16) -> &Component
+        requires { place < length self.now.parts }
+        ensures { slice_get self.now.parts place ≡ Some result.now }
+    {
+        &self.parts[place as usize]
+    }
+
+    /// The measured word of a cell, if it is measured.
+    pub fn reading_at(&self, cell: Cell) -> Option<u64>
+        ensures { result ≡ reading_in self.now.readings cell }
+    {
+        reading_of(&self.readings, cell)
+    }
+
+    /// The number of standing measurements.
+    pub fn readings(&self) -> u16
+        ensures value { result ≡ length self.now.readings }
+        ensures lawful { IsLawful self.now }
+    {
+        self.readings.len() as u16
+    }
+
+    /// A standing measurement by its place in the order of cells.
+    pub fn reading(&self, place: u16) -> Fact
+        requires { place < length self.now.readings }
+        ensures { slice_get self.now.readings place ≡ Some result }
+    {
+        self.readings[place as usize]
+    }
+
+    /// Declares a net.
+    pub fn add_net(&mut self, name: Name, width: Width) -> Result<(), AllocError>
+        requires free { named_in self.old name ≡ None }
+        requires room { length self.old.nets < MOST_NETS }
+        requires cells { (length self.old.nets + 1) * self.old.cycles ≤ MOST_CELLS }
+        ensures ok { OnOk result (self.new ≡ with_net (record { name = name; width = width }) self.old) }
+        ensures err { OnErr result (self.new ≡ self.old) }
+    {
+        let net = Net::new(name, width);
+        self.nets.push(net)?;
+        Ok(())
+    }
+
+    /// Declares a component.
+    pub fn add_part(&mut self, component: Component) -> Result<(), AllocError>
+        requires free { named_in self.old component.name ≡ None }
+        requires room { length self.old.parts < MOST_PARTS }
+        requires lawful { IsLawfulComponent self.old component }
+        ensures ok { OnOk result (self.new ≡ with_part component self.old) }
+        ensures err { OnErr result (self.new ≡ self.old) }
+    {
+        let _name = component.name.bytes();
+        self.parts.push(component)?;
+        Ok(())
+    }
+
+    /// Puts a measurement among the standing ones. The room for it was taken when the present was opened.
+    pub fn set_reading(&mut self, fact: Fact)
+        requires fact { IsFactOf self.old fact }
+        requires free { reading_in self.old.readings fact.cell ≡ None }
+        requires room { length self.old.readings < MOST_READINGS }
+        ensures { self.new ≡ with_standing fact self.old }
+    {
+        let place = place_of(&self.readings, fact);
+        match self.readings.insert(place, fact) {
+            Ok(()) => (),
+            Err(_) => unreachable!(),
+        }
+    }
+}
+
+impl Net {
+    fn new(name: Name, width: Width) -> Net
+        ensures net { result ≡ record { name = name; width = width } }
+        ensures name { IsTrue (is_name name) }
+        ensures low { 1 ≤ width }
+        ensures high { width ≤ 32 }
+    {
+        let _bytes = name.bytes();
+        let _bits = width.bits();
+        Net { name, width }
+    }
+}
+
+// The place of the net with the name.
+fn net_named(nets: &[Net], name: &Name) -> Option<u16>
+    requires { length nets.now ≤ MOST_NETS }
+    ensures { result ≡ position (λ n. bytes_eq n.name name.now) nets.now }
+{
+    net_position(nets, name).map(|place| place as u16)
+}
+
+fn net_position(nets: &[Net], name: &Name) -> Option<usize>
+    ensures { result ≡ position (λ n. bytes_eq n.name name.now) nets.now }
+{
+    nets.iter().position(|net| is_same(&net.name, name))
+}
+
+// The place of the component with the name.
+fn part_named(parts: &[Component], name: &Name) -> Option<u16>
+    requires { length parts.now ≤ MOST_PARTS }
+    ensures { result ≡ position (λ p. bytes_eq p.name name.now) parts.now }
+{
+    part_position(parts, name).map(|place| place as u16)
+}
+
+fn part_position(parts: &[Component], name: &Name) -> Option<usize>
+    ensures { result ≡ position (λ p. bytes_eq p.name name.now) parts.now }
+{
+    parts.iter().position(|part| is_same(&part.name, name))
+}
+
+fn is_same(one: &Name, other: &Name) -> bool
+    ensures { result ≡ bytes_eq one.now other.now }
+{
+    one == other
+}
+
+// The word at the cell.
+fn reading_of(readings: &[Fact], cell: Cell) -> Option<u64>
+    ensures { result ≡ reading_in readings.now cell }
+{
+    for reading in readings {
+        if reading.cell == cell {
+            return Some(reading.value);
+        }
+    }
+    None
+}
+
+// The place of a further fact in the order of cells.
+fn place_of(readings: &[Fact], fact: Fact) -> usize
+    ensures within { result ≤ length readings.now }
+    ensures place { insert readings.now result fact ≡ with_reading fact readings.now }
+{
+    for (place, reading) in readings.iter().enumerate() {
+        if comes_before(fact.cell, reading.cell) {
+            return place;
+        }
+    }
+    readings.len()
+}
+
+fn comes_before(one: Cell, other: Cell) -> bool
+    ensures { result ≡ is_cell_before one other }
+{
+    one < other
 }

@@ -1,5 +1,3 @@
-use Rattle.std.proofs.Common.{◌≡◌}
-use Rattle.std.proofs.lemmas.List.{take_at, take_all}
 use Rattle.circuit_model.proofs.Paddings.{IsPadded-filled}
 use Rattle.circuit_model.proofs.name.Name.of_bytes.Goals as goal
 

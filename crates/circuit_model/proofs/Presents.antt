@@ -1,0 +1,164 @@
+-- What a further net, component or measurement keeps of a lawful present.
+use Rattle.std.proofs.Common.{◌≡◌, ℕ, suc, ◌+◌, ◌*◌, ◌^◌, ◌<◌, ◌≤◌, ◌⊎◌, inl, inr, Bool, false, cond, not, ltb, List, [], ◌∷◌, ◌++◌, length, map, Option, Some, None, IsTrue, refl, sym, ap, subst, ◌∙◌, arith}
+use Rattle.std.specs.Prelude.{slice_index}
+use Rattle.std.specs.List.{All, position, prefix_len}
+use Rattle.std.specs.Str.{bytes_eq}
+use Rattle.std.proofs.lemmas.Bool.{false≢true}
+use Rattle.std.proofs.lemmas.Bool.Decides.{nat_tests}
+use Rattle.std.proofs.lemmas.Slice.Eq.{bytes_eq-Decides}
+use Rattle.std.proofs.lemmas.List.{append-nil, append_assoc, length_push, map-append, length-map, get_or_append_left}
+use Rattle.std.proofs.lemmas.List.Elements.{All-cons, All-head, All-tail, All-push, All-weaker}
+use Rattle.environment_sets.specs.Lists.{IsIn, AreDistinct}
+use Rattle.circuit_model.specs.declared.model.Fact.{Fact}
+use Rattle.circuit_model.specs.declared.present.Component.{Component}
+use Rattle.circuit_model.specs.declared.present.Net.{Net}
+use Rattle.circuit_model.specs.Names.{is_name}
+use Rattle.circuit_model.specs.Kinds.{are_widths, fits_value, instances}
+use Rattle.circuit_model.specs.Present.{MOST_NETS, MOST_CELLS, MOST_PARTS, Setup, names_of, net_named, part_named, net_or_part, named_in, width_of, with_net, with_part, IsLawfulComponent, IsFactOf, IsLawful}
+
+passed : (b : Bool) (i n : ℕ) → cond (ltb (cond (not b) (1 + i) 0) (suc n)) (Some (cond (not b) (1 + i) 0)) None ≡ None → (b ≡ false) × (cond (ltb i n) (Some i) None ≡ None)
+passed b i n h = (grind (arith, nat_tests), grind (arith, nat_tests))
+
+module _ {X : Type 0} where
+  -- no element passes where no place is found
+  pub position-None : (p : X → Bool) (xs : List X) → position p xs ≡ None → (x : X) → IsIn xs x → p x ≡ false
+  position-None p [] none x h = elim h [ ]
+  position-None p (y ∷ xs) none x (inl e) = ap p (sym e) ∙ (passed (p y) (prefix_len (λ x. not (p x)) xs) (length xs) none).0
+  position-None p (y ∷ xs) none x (inr later) = position-None p xs (passed (p y) (prefix_len (λ x. not (p x)) xs) (length xs) none).1 x later
+
+  pub IsIn-append : (xs ys : List X) (x : X) → IsIn (xs ++ ys) x → IsIn xs x ⊎ IsIn ys x
+  IsIn-append [] ys x h = inr h
+  IsIn-append (y ∷ xs) ys x (inl e) = inl (inl e)
+  IsIn-append (y ∷ xs) ys x (inr h) = elim (IsIn-append xs ys x h) as (λ _. IsIn (y ∷ xs) x ⊎ IsIn ys x) [ inl a ↦ inl (inr a) | inr b ↦ inr b ]
+
+  -- what stands in a list with one more element in it stood there or is that element
+  pub IsIn-more : (xs ys : List X) (z x : X) → IsIn ((xs ++ z ∷ []) ++ ys) x → (z ≡ x) ⊎ IsIn (xs ++ ys) x
+  IsIn-more [] ys z x h = h
+  IsIn-more (y ∷ xs) ys z x (inl e) = inr (inl e)
+  IsIn-more (y ∷ xs) ys z x (inr h) = elim (IsIn-more xs ys z x h) as (λ _. (z ≡ x) ⊎ IsIn (y ∷ (xs ++ ys)) x) [ inl a ↦ inl a | inr b ↦ inr (inr b) ]
+
+  -- a new element keeps the elements apart
+  pub AreDistinct-more : (xs ys : List X) (z : X) → AreDistinct (xs ++ ys) → (IsIn (xs ++ ys) z → ⊥) → AreDistinct ((xs ++ z ∷ []) ++ ys)
+  AreDistinct-more [] ys z apart new = ((λ y h e. new (subst (λ (w : X). IsIn ys w) (sym e) h)), apart)
+  AreDistinct-more (x ∷ xs) ys z apart new = (
+    (λ y h e. elim (IsIn-more xs ys z y h) as (λ _. ⊥) [ inl a ↦ new (inl (e ∙ sym a)) | inr b ↦ apart.0 y b e ]),
+    AreDistinct-more xs ys z apart.1 (λ h. new (inr h)),
+  )
+
+  -- a new element that has what each has
+  pub All-more_between : (P : X → Type 0) (xs ys : List X) (z : X) → All P (xs ++ ys) → P z → All P ((xs ++ z ∷ []) ++ ys)
+  All-more_between P [] ys z h p = All-cons P z ys p h
+  All-more_between P (x ∷ xs) ys z h p = All-cons P x ((xs ++ z ∷ []) ++ ys) (All-head P x (xs ++ ys) h) (All-more_between P xs ys z (All-tail P x (xs ++ ys) h) p)
+
+module _ {X Y : Type 0} (f : X → Y) where
+  pub IsIn-map : (xs : List X) (y : Y) → IsIn (map f xs) y → (x : X) × IsIn xs x × (f x ≡ y)
+  IsIn-map [] y h = elim h [ ]
+  IsIn-map (x ∷ xs) y (inl e) = (x, inl refl, e)
+  IsIn-map (x ∷ xs) y (inr h) = let p = IsIn-map xs y h in (p.0, inr p.1, p.2)
+
+module _ {X : Type 0} (f g : ℕ → X) (n : ℕ) (agree : (k : ℕ) → k < n → f k ≡ g k) where
+  map_agree : (xs : List ℕ) → All (λ k. k < n) xs → map f xs ≡ map g xs
+  map_agree [] h = refl
+  map_agree (x ∷ xs) h = let e = agree x (All-head (λ k. k < n) x xs h) in let es = map_agree xs (All-tail (λ k. k < n) x xs h) in cc
+
+net_or_part-None : (net part : Option ℕ) → net_or_part net part ≡ None → (net ≡ None) × (part ≡ None)
+net_or_part-None None None h = (refl, refl)
+net_or_part-None None (Some j) h = cc
+net_or_part-None (Some i) part h = cc
+
+not_named : (name other : List ℕ) → other ≡ name → bytes_eq other name ≡ false → ⊥
+not_named name other e apart = false≢true (sym apart ∙ (bytes_eq-Decides other name).1 e)
+
+-- a free name is no name of a net or of a component
+pub free_is_new : (s : Setup) (name : List ℕ) → named_in s name ≡ None → IsIn (names_of s) name → ⊥
+free_is_new s name free h =
+    let nets : List (List ℕ) = map (λ (n : Net). n.name) s.nets in
+    let parts : List (List ℕ) = map (λ (p : Component). p.name) s.parts in
+    let none = net_or_part-None (net_named s name) (part_named s name) free in
+    elim (IsIn-append nets parts name h) as (λ _. ⊥) [
+      | inl a ↦ let p = IsIn-map (λ (n : Net). n.name) s.nets name a in not_named name p.0.name p.2 (position-None (λ n. bytes_eq n.name name) s.nets none.0 p.0 p.1)
+      | inr b ↦ let p = IsIn-map (λ (c : Component). c.name) s.parts name b in not_named name p.0.name p.2 (position-None (λ c. bytes_eq c.name name) s.parts none.1 p.0 p.1)
+    ]
+
+module _ (n : Net) (s : Setup) where
+  pub width_of-with_net : (k : ℕ) → k < length s.nets → width_of (with_net n s) k ≡ width_of s k
+  width_of-with_net k h =
+      let w : Net → ℕ = λ n. n.width in
+      let fits : k < length (map w s.nets) = omega (arith, length-map s.nets w) in
+      ap (λ ws. slice_index ws k) (map-append w s.nets (n ∷ [])) ∙ get_or_append_left (map w s.nets) (n.width ∷ []) 0 k fits
+
+  widths_with_net : (nets : List ℕ) → All (λ k. k < length s.nets) nets → map (width_of (with_net n s)) nets ≡ map (width_of s) nets
+  widths_with_net nets h = map_agree (width_of (with_net n s)) (width_of s) (length s.nets) width_of-with_net nets h
+
+  fits_with_net : (k : ℕ) → k < length s.nets → k < length (with_net n s).nets
+  fits_with_net k h = omega (arith, length_push s.nets n)
+
+  pub IsLawfulComponent-with_net : (c : Component) → IsLawfulComponent s c → IsLawfulComponent (with_net n s) c
+  IsLawfulComponent-with_net c h = let e = sym (widths_with_net c.nets h.nets) in record {
+    three = h.three;
+    nets = All-weaker (λ k. k < length s.nets) (λ k. k < length (with_net n s).nets) fits_with_net c.nets h.nets;
+    widths = subst (λ (ws : List ℕ). IsTrue (are_widths c.kind ws)) e h.widths;
+    value = subst (λ (ws : List ℕ). IsTrue (fits_value c.kind ws)) e h.value;
+    part = subst (λ (ws : List ℕ). c.part ≡ instances c.kind c.nets ws s.cycles) e h.part;
+  }
+
+  pub IsFactOf-with_net : (f : Fact) → IsFactOf s f → IsFactOf (with_net n s) f
+  IsFactOf-with_net f h = record {
+    net = fits_with_net f.cell.net h.net;
+    cycle = h.cycle;
+    fits = subst (λ (w : ℕ). f.value < 2 ^ w) (sym (width_of-with_net f.cell.net h.net)) h.fits;
+  }
+
+-- a net with a free name keeps a present lawful
+pub IsLawful-with_net : (n : Net) (s : Setup) → IsLawful s → named_in s n.name ≡ None → length s.nets < MOST_NETS → (length s.nets + 1) * s.cycles ≤ MOST_CELLS → IsTrue (is_name n.name) → 1 ≤ n.width → n.width ≤ 32 → IsLawful (with_net n s)
+IsLawful-with_net n s h free room cells name low high =
+    let more = length_push s.nets n in
+    let nets : List (List ℕ) = map (λ (n : Net). n.name) s.nets in
+    let parts : List (List ℕ) = map (λ (p : Component). p.name) s.parts in
+    let names : names_of (with_net n s) ≡ (nets ++ n.name ∷ []) ++ parts = ap (λ ns. ns ++ parts) (map-append (λ (n : Net). n.name) s.nets (n ∷ [])) in
+    record {
+      some_cycle = h.some_cycle;
+      cycles = h.cycles;
+      nets = omega arith;
+      cells = rw more cells;
+      parts = h.parts;
+      readings = h.readings;
+      names = subst (λ (ns : List (List ℕ)). All (λ n. IsTrue (is_name n)) ns) (sym names) (All-more_between (λ n. IsTrue (is_name n)) nets parts n.name h.names name);
+      distinct = subst (λ (ns : List (List ℕ)). AreDistinct ns) (sym names) (AreDistinct-more nets parts n.name h.distinct (free_is_new s n.name free));
+      widths = All-push (λ (n : Net). (1 ≤ n.width) × (n.width ≤ 32)) s.nets n h.widths (low, high);
+      each_part = All-weaker (IsLawfulComponent s) (IsLawfulComponent (with_net n s)) (IsLawfulComponent-with_net n s) s.parts h.each_part;
+      each_reading = All-weaker (IsFactOf s) (IsFactOf (with_net n s)) (IsFactOf-with_net n s) s.readings h.each_reading;
+      rising = h.rising;
+    }
+
+module _ (c : Component) (s : Setup) where
+  pub IsLawfulComponent-with_part : (d : Component) → IsLawfulComponent s d → IsLawfulComponent (with_part c s) d
+  IsLawfulComponent-with_part d h = record { three = h.three; nets = h.nets; widths = h.widths; value = h.value; part = h.part }
+
+  pub IsFactOf-with_part : (f : Fact) → IsFactOf s f → IsFactOf (with_part c s) f
+  IsFactOf-with_part f h = record { net = h.net; cycle = h.cycle; fits = h.fits }
+
+  -- a lawful component with a free name keeps a present lawful
+  pub IsLawful-with_part : IsLawful s → named_in s c.name ≡ None → length s.parts < MOST_PARTS → IsLawfulComponent s c → IsTrue (is_name c.name) → IsLawful (with_part c s)
+  IsLawful-with_part h free room lawful name =
+      let more = length_push s.parts c in
+      let nets : List (List ℕ) = map (λ (n : Net). n.name) s.nets in
+      let parts : List (List ℕ) = map (λ (p : Component). p.name) s.parts in
+      let whole : names_of s ++ [] ≡ names_of s = append-nil (names_of s) in
+      let names : names_of (with_part c s) ≡ (names_of s ++ c.name ∷ []) ++ [] =
+      ap (λ ps. nets ++ ps) (map-append (λ (p : Component). p.name) s.parts (c ∷ [])) ∙ (sym (append_assoc nets parts (c.name ∷ [])) ∙ sym (append-nil (names_of s ++ c.name ∷ []))) in
+      let new : IsIn (names_of s ++ []) c.name → ⊥ = λ at. free_is_new s c.name free (subst (λ (ns : List (List ℕ)). IsIn ns c.name) whole at) in
+      record {
+        some_cycle = h.some_cycle;
+        cycles = h.cycles;
+        nets = h.nets;
+        cells = h.cells;
+        parts = omega arith;
+        readings = h.readings;
+        names = subst (λ (ns : List (List ℕ)). All (λ n. IsTrue (is_name n)) ns) (sym names) (All-more_between (λ n. IsTrue (is_name n)) (names_of s) [] c.name (subst (λ (ns : List (List ℕ)). All (λ n. IsTrue (is_name n)) ns) (sym whole) h.names) name);
+        distinct = subst (λ (ns : List (List ℕ)). AreDistinct ns) (sym names) (AreDistinct-more (names_of s) [] c.name (subst (λ (ns : List (List ℕ)). AreDistinct ns) (sym whole) h.distinct) new);
+        widths = h.widths;
+        each_part = All-push (IsLawfulComponent (with_part c s)) s.parts c (All-weaker (IsLawfulComponent s) (IsLawfulComponent (with_part c s)) IsLawfulComponent-with_part s.parts h.each_part) (IsLawfulComponent-with_part c lawful);
+        each_reading = All-weaker (IsFactOf s) (IsFactOf (with_part c s)) IsFactOf-with_part s.readings h.each_reading;
+        rising = h.rising;
+      }
