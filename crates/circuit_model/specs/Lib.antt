@@ -4,3 +4,9 @@ pub mod Closure
 pub mod Stock
 pub mod Laws
 pub mod Diagnoses
+pub mod Names
+pub mod Kinds
+pub mod Present
+pub mod Padding
+pub mod Whole
+pub mod Kept

@@ -3,8 +3,12 @@
 
 mod laws;
 mod model;
+mod name;
+mod present;
 
 pub use laws::{
     fewer_assumptions_close_less, forced_facts_follow, part_of_a_consistent_environment,
 };
-pub use model::{Assumption, Cell, Fact, Instance, Part, Primitive as Prim};
+pub use model::{Assumption, Cell, Fact, Instance, Kind, Part, Primitive as Prim};
+pub use name::Name;
+pub use present::{Component, Named};

@@ -36,6 +36,23 @@ pub enum Primitive {
     Const { value: u64 },
 }
 
+/// A kind of component. `Const` has the value that it gives, and `Reg` the one that it holds at cycle 0.
+#[derive(Clone, Copy, PartialEq, Eq, Debug)]
+pub enum Kind {
+    Buf,
+    Not,
+    And,
+    Or,
+    Xor,
+    Nand,
+    Nor,
+    Xnor,
+    Add,
+    Mul,
+    Const { value: u64 },
+    Reg { reset: u64 },
+}
+
 /// A relation between the words at some cells.
 #[derive(Clone, Copy, PartialEq, Eq, Debug)]
 pub struct Instance {
