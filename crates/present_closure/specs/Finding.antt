@@ -8,6 +8,8 @@ use Rattle.circuit_model.specs.Diagnoses.{Place, AtPart, AtCell}
 use Rattle.circuit_model.specs.Present.{Setup}
 use Rattle.circuit_model.specs.Whole.{stock, everything}
 use Rattle.present_closure.specs.declared.environment.Environment.{Environment}
+use Rattle.present_closure.specs.declared.finding.Finding.{Finding}
+use Rattle.present_closure.specs.declared.finding.Finding.TheVariants.{Clash, Value, Nothing}
 
 -- the components and the cells of an environment
 abbrev pub members : Environment → Set Place
@@ -24,3 +26,9 @@ pub record IsValue (s : Setup) (c : Cell) (value : ℕ) (from : Environment) : T
 pub record IsSilent (s : Setup) (c : Cell) : Type 0 where
   pub consistent : IsRefutedBy (stock s) (everything s) → ⊥
   pub nothing : (v : ℕ) → Has (stock s) (fact c v) (everything s) → ⊥
+
+-- a clash of everything; a word that follows, and from what; or none
+abbrev pub Finds : Setup → Cell → Finding → Type 0
+Finds s c Clash = IsRefutedBy (stock s) (everything s)
+Finds s c (Value value from) = IsValue s c value from
+Finds s c Nothing = IsSilent s c
