@@ -5,3 +5,4 @@ pub mod Sessions
 pub mod Running
 pub mod Serving
 pub mod Causes
+pub mod Nets

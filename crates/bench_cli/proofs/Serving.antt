@@ -3,14 +3,18 @@ use Rattle.std.proofs.Common.{ℕ, ◌<◌, List, length, Option, Ok, refl, arit
 use Rattle.bench_io.specs.Lines.{LONGEST}
 use Rattle.bench_io.specs.Reading.{Reading, ReadsLine}
 use Rattle.bench_io.specs.declared.lines.Line.TheVariants.{TooLong}
-use Rattle.bench_cli.specs.Replies.{Refused}
-use Rattle.bench_cli.specs.State.{State, Takes, refused}
+use Rattle.bench_cli.specs.Grammar.{words_of, IsReadable}
+use Rattle.bench_cli.specs.Requests.{Asks}
+use Rattle.bench_cli.specs.Replies.{Reply, Told, Refused, NoMemory}
+use Rattle.bench_cli.specs.Serving.{Serves}
+use Rattle.bench_cli.specs.declared.requests.Request.{Request}
+use Rattle.bench_cli.specs.State.{State, Takes, unreadable, barred, served}
 use Rattle.bench_cli.specs.Turns.{Steps}
 use Rattle.bench_cli.specs.declared.replies.Answer.TheVariants as answer
 use Rattle.bench_cli.specs.declared.replies.Refusal.TheVariants.{NotBuilt}
 
 pub takes_too_long : (s : State) (line : List ℕ) → LONGEST < length line → Takes s line (Refused NotBuilt) s
-takes_too_long s line h = refused (λ k. absurd (omega (arith, h, k.0.short))) refl refl
+takes_too_long s line h = unreadable (λ k. absurd (omega (arith, h, k.short))) refl refl
 
 -- a line was read that is too long
 pub steps_too_long : (first reader : Reading) (s : State) (l₀ l₁ : Option (List ℕ)) (f₀ f₁ : ℕ) → ReadsLine first reader l₀ l₁ f₀ f₁ (Ok TooLong)
@@ -22,3 +26,9 @@ steps_too_long first reader s l₀ l₁ f₀ f₁ k = record {
   later = k.later;
   answer = (k.answer.0, record { line = k.answer.1; begins = k.answer.3; takes = takes_too_long s k.answer.1 k.answer.2 });
 }
+
+-- a readable line that asks a request is answered as the request is
+pub takes : (old : State) (line : List ℕ) (request : Request) (reply : Reply) (new : State) → IsReadable line → Asks (words_of line) request → Serves old request reply new → Takes old line reply new
+takes old line request (Told text) new readable asks s = served readable request asks s.0 s.1
+takes old line request (Refused NotBuilt) new readable asks s = barred readable request asks s.0 refl s.1
+takes old line request NoMemory new readable asks s = (record { readable = readable; request = request; asks = asks; free = s.0; wants = s.1 }, s.2)

@@ -5,7 +5,10 @@ pub mod Requests
 pub mod Reading
 pub mod Replies
 pub mod Answers
+pub mod Texts
 pub mod State
+pub mod Serving
 pub mod Session
 pub mod Causes
+pub mod Puts
 pub mod Turns

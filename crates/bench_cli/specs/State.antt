@@ -9,7 +9,7 @@ use Rattle.circuit_model.specs.Kinds.{cell_at, are_widths, fits_value, instances
 use Rattle.circuit_model.specs.Closure.{fact}
 use Rattle.circuit_model.specs.Stock.{IsEnvironment, Has, IsRefutedBy}
 use Rattle.circuit_model.specs.Diagnoses.{Place}
-use Rattle.circuit_model.specs.Present.{Setup, MOST_NETS, MOST_CELLS, MOST_PARTS, MOST_READINGS, net_named, named_in, width_of, reading_in, with_reading, empty_setup}
+use Rattle.circuit_model.specs.Present.{Setup, MOST_NETS, MOST_CELLS, MOST_PARTS, MOST_READINGS, net_named, named_in, width_of, reading_in, with_net, with_part, with_standing, empty_setup}
 use Rattle.circuit_model.specs.Whole.{stock, everything}
 use Rattle.bench_cli.specs.Grammar.{words_of, IsReadable}
 use Rattle.bench_cli.specs.Requests.{Asks}
@@ -52,14 +52,24 @@ component_of s name kind nets = record { name = name; kind = kind; nets = places
 abbrev pub is_width : ℕ → Bool
 is_width bits = nat_le 1 bits && nat_le bits 32
 
+-- the checks on a measurement of the net at the place
+abbrev pub checks_of_reading : Setup → ℕ → ℕ → ℕ → List Bool
+-- the cycle is bad; the value does not fit; the measurements are full; the cell is measured
+checks_of_reading s place cycle value = not (nat_lt cycle s.cycles) ∷ not (nat_lt value (2 ^ width_of s place)) ∷ nat_le MOST_READINGS (length s.readings) ∷ is_some (reading_in s.readings (cell_at cycle place)) ∷ []
+
+-- the checks on a component of the kind at the nets at the places
+abbrev pub checks_of_part : Setup → Kind → List ℕ → List Bool
+-- the widths disagree; the value does not fit; the components are full
+checks_of_part s kind places = not (are_widths kind (map (width_of s) places)) ∷ not (fits_value kind (map (width_of s) places)) ∷ nat_le MOST_PARTS (length s.parts) ∷ []
+
 -- The checks on a change, in order: whether each of them applies.
 abbrev pub checks_of : Setup → Change → List Bool
 -- the name is taken; the width is bad; the nets are full; the cells are full
 checks_of s (Net name width) = is_some (named_in s name) ∷ not (is_width width) ∷ nat_le MOST_NETS (length s.nets) ∷ nat_lt MOST_CELLS ((length s.nets + 1) * s.cycles) ∷ []
--- the name is taken; a net is unknown; the widths disagree; the value does not fit; the components are full
-checks_of s (Add name kind nets) = is_some (named_in s name) ∷ not (list_all (λ net. is_some (net_named s net)) nets) ∷ not (are_widths kind (widths_of s nets)) ∷ not (fits_value kind (widths_of s nets)) ∷ nat_le MOST_PARTS (length s.parts) ∷ []
--- the net is unknown; the cycle is bad; the value does not fit; the measurements are full; the cell is measured
-checks_of s (Measure net cycle value) = not (is_some (net_named s net)) ∷ not (nat_lt cycle s.cycles) ∷ not (nat_lt value (2 ^ width_of s (place_of s net))) ∷ nat_le MOST_READINGS (length s.readings) ∷ is_some (reading_in s.readings (cell_of s net cycle)) ∷ []
+-- the name is taken; a net is unknown; and those of a component
+checks_of s (Add name kind nets) = is_some (named_in s name) ∷ not (list_all (λ net. is_some (net_named s net)) nets) ∷ checks_of_part s kind (places_of s nets)
+-- the net is unknown; and those of a measurement
+checks_of s (Measure net cycle value) = not (is_some (net_named s net)) ∷ checks_of_reading s (place_of s net) cycle value
 
 -- The checks on a question, in order.
 abbrev pub checks_of_query : Setup → Query → List Bool
@@ -77,9 +87,9 @@ is_barred s (request.Query query) = some_applies (checks_of_query s query)
 
 -- the present after a change
 abbrev pub after : Setup → Change → Setup
-after s (Net name width) = record s { nets = s.nets ++ (record { name = name; width = width }) ∷ [] }
-after s (Add name kind nets) = record s { parts = s.parts ++ component_of s name kind nets ∷ [] }
-after s (Measure net cycle value) = record s { readings = with_reading (fact (cell_of s net cycle) value) s.readings }
+after s (Net name width) = with_net (record { name = name; width = width }) s
+after s (Add name kind nets) = with_part (component_of s name kind nets) s
+after s (Measure net cycle value) = with_standing (fact (cell_of s net cycle) value) s
 
 -- The reply on a cell. Where all components and all measurements clash, it says so. Else it has the value that follows
 -- from them, if there is one, and an environment from which it follows.

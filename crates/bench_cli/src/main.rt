@@ -8,10 +8,12 @@ ghost use Rattle.bench_cli.specs.Session.{Session, WhereTold};
 ghost use Rattle.bench_cli.specs.Statuses.{number_of};
 ghost use Rattle.bench_cli.specs.Words.{IsRun, TellsUsage};
 
+mod changes;
 mod reading;
 mod replies;
 mod requests;
 mod session;
+
 mod state;
 #[cfg(test)]
 mod tests;

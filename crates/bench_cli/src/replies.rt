@@ -17,6 +17,7 @@ pub enum Refusal {
 #[derive(Clone, Copy, Debug, PartialEq, Eq)]
 pub enum Answer {
     Nothing,
+    Accepted,
     Refused(Refusal),
     NoMemory,
 }
@@ -56,6 +57,7 @@ pub fn write_answer<K: Sink>(answer: &Answer, sink: &mut K) -> Result<(), Failed
 {
     match answer {
         Answer::Nothing => write_all(sink, b""),
+        Answer::Accepted => write_all(sink, b"ok\n"),
         Answer::Refused(refusal) => write_refusal(sink, refusal.number(), refusal.words()),
         Answer::NoMemory => write_refusal(sink, NO_MEMORY, b"no memory"),
     }

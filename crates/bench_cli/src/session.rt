@@ -23,7 +23,7 @@ impl Tally {
         ensures { self.new ≡ tally_after self.old (reply_of answer.now) }
     {
         match answer {
-            Answer::Nothing => {}
+            Answer::Nothing | Answer::Accepted => {}
             Answer::Refused(_) => self.refused = true,
             Answer::NoMemory => self.no_memory = true,
         }
@@ -92,7 +92,10 @@ pub fn run<S: Source, K: Sink>(alloc: Global, source: &mut S, sink: &mut K) -> S
         Ok(reader) => reader,
         Err(_) => return Status::NoMemory,
     };
-    let mut bench = Bench::new(alloc);
+    let mut bench = match Bench::open(alloc) {
+        Ok(bench) => bench,
+        Err(_) => return Status::NoMemory,
+    };
     let mut tally = Tally {
         refused: false,
         no_memory: false,

@@ -16,11 +16,14 @@ ports_of_kind (Const value) = 1
 ports_of_kind (Reg reset) = 2
 ports_of_kind _ = 3
 
+abbrev pub are_equal : List ℕ → Bool
+are_equal widths = (slice_index widths 0 == slice_index widths 1) && (slice_index widths 1 == slice_index widths 2)
+
 -- The ports' widths keep the kind's rule. (Lists of three: unused places repeat the last port.)
 abbrev pub are_widths : Kind → List ℕ → Bool
 are_widths (Const value) widths = true
 are_widths Mul widths = slice_index widths 2 == slice_index widths 0 + slice_index widths 1
-are_widths _ widths = (slice_index widths 0 == slice_index widths 1) && (slice_index widths 1 == slice_index widths 2)
+are_widths _ widths = are_equal widths
 
 -- the kind's value, if it has one, fits the width of its last port
 abbrev pub fits_value : Kind → List ℕ → Bool

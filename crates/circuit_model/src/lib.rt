@@ -6,6 +6,7 @@ pub mod limits;
 mod model;
 mod name;
 mod present;
+mod rules;
 
 pub use laws::{
     fewer_assumptions_close_less, forced_facts_follow, part_of_a_consistent_environment,
@@ -13,3 +14,4 @@ pub use laws::{
 pub use model::{Assumption, Cell, Fact, Instance, Kind, Part, Primitive as Prim};
 pub use name::Name;
 pub use present::{Component, Named, Net, Present};
+pub use rules::{are_widths, fits_value};

@@ -11,7 +11,7 @@ pub loop-answer-init : goal.loop-answer-init
 loop-answer-init g c = record {
   exchanges = [];
   read = let P : State → Type 0 = λ s. ReadSofar [] (g.S.Source.left c.args.source.now) (g.S.Source.left c.args.source.now) (g.S.Source.faults c.args.source.now) (g.S.Source.faults c.args.source.now) c.in-Ok.reader s in
-      subst P (sym c.new-bench.ensures) (begun _ _ c.in-Ok.reader c.in-Ok.ensures.0 c.in-Ok.ensures.1 c.in-Ok.ensures.2 c.in-Ok.ensures.3);
+      subst P (sym c.in-Ok-open.ensures) (begun _ _ c.in-Ok.reader c.in-Ok.ensures.0 c.in-Ok.ensures.1 c.in-Ok.ensures.2 c.in-Ok.ensures.3);
   written = Appends-nothing _;
   sink_later = omega arith;
   refused = refl;

@@ -1,0 +1,36 @@
+// The rules that a kind has for the widths of its ports and for its value.
+
+ghost use Rattle.std.specs.Prelude.{◌≡◌, length};
+ghost use Rattle.circuit_model.specs.Kinds as rules;
+
+use crate::model::Kind;
+use word_domain::Width;
+
+// Each of the three widths is the same.
+fn are_equal(widths: &[Width; 3]) -> bool
+    ensures { result ≡ rules.are_equal widths.now }
+{
+    widths[0].bits() == widths[1].bits() && widths[1].bits() == widths[2].bits()
+}
+
+/// Whether the widths of a component's ports keep its kind's rule. Unused places repeat the last port.
+pub fn are_widths(kind: Kind, widths: &[Width; 3]) -> bool
+    ensures { result ≡ rules.are_widths kind widths.now }
+{
+    match kind {
+        Kind::Const { .. } => true,
+        Kind::Mul => widths[2].bits() == widths[0].bits() + widths[1].bits(),
+        _ => are_equal(widths),
+    }
+}
+
+/// Whether a kind's value, if it has one, fits the width of its last port.
+pub fn fits_value(kind: Kind, widths: &[Width; 3]) -> bool
+    ensures { result ≡ rules.fits_value kind widths.now }
+{
+    match kind {
+        Kind::Const { value } => widths[2].fits(value),
+        Kind::Reg { reset } => widths[2].fits(reset),
+        _ => true,
+    }
+}
