@@ -1,7 +1,8 @@
 // A whole session: a line is read, its step is taken and its reply is written, until the end.
-ghost use Rattle.std.specs.Prelude.{◌≡◌, ◌≤◌, false};
+ghost use Rattle.std.specs.Prelude.{◌≡◌, ◌≤◌, ◌↔◌, false};
 ghost use Rattle.bench_io.specs.Causes.{Rose};
-ghost use Rattle.bench_cli.specs.Session.{Session};
+ghost use Rattle.bench_cli.specs.Session.{Session, WhereTold};
+ghost use Rattle.bench_cli.specs.Causes.{TakesTooMuch};
 ghost use Rattle.bench_cli.specs.Turns.{Steps, tally_after, status_of, ending_of};
 ghost use Rattle.bench_cli.specs.Answers.{reply_of};
 
@@ -85,6 +86,7 @@ pub fn run<S: Source, K: Sink>(alloc: Global, source: &mut S, sink: &mut K) -> S
     ensures session { Session result (S.left source.old) (S.left source.new) (K.held sink.old) (K.held sink.new) }
     ensures read_fault { result ≡ Status.ReadFault → Rose (S.faults source.old) (S.faults source.new) }
     ensures write_fault { result ≡ Status.WriteFault → Rose (K.faults sink.old) (K.faults sink.new) }
+    ensures too_much { WhereTold (S.left source.old) (S.left source.new) (λ input left. (result ≡ Status.TooMuch) ↔ TakesTooMuch input left) }
     ensures source_later { S.faults source.old ≤ S.faults source.new }
     ensures sink_later { K.faults sink.old ≤ K.faults sink.new }
 {

@@ -68,7 +68,10 @@ fn reads_fail(rt: &impl Abort, alloc: Global, piece: usize) -> Result<(), Fail>
         let (_, want) = session(alloc, (read - 1).saturating_mul(piece))?;
         let (status, sink) = ran(alloc, "run", &text, piece, read as u64, NEVER)?;
         assert!(rt; status == Status::ReadFault, "piece {piece}, read {read}");
-        assert!(rt; sink.held() == want.as_slice(), "piece {piece}, read {read}");
+        assert!(rt;
+            sink.held() == want.as_slice(),
+            "piece {piece}, read {read}"
+        );
     }
     let (status, sink) = ran(alloc, "run", &text, piece, last as u64 + 1, NEVER)?;
     assert!(rt; status == Status::SomeRefused, "piece {piece}");

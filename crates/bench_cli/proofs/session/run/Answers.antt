@@ -4,6 +4,7 @@ use Rattle.bench_cli.specs.Replies.{Exchange}
 use Rattle.bench_cli.specs.Answers.{reply_of}
 use Rattle.bench_cli.specs.Turns.{ReadSofar}
 use Rattle.bench_cli.specs.State.{State}
+use Rattle.bench_cli.proofs.Causes.{too_much_exactly}
 use Rattle.bench_cli.proofs.Sessions.{begun, stepped, ahead_falls, reads_some, outcome_of, writes_part, writes_whole, noted_refused, noted_no_memory}
 use Rattle.bench_cli.proofs.session.run.Goals as goal
 
@@ -62,3 +63,9 @@ returns-in-Err-step-clause-session g c =
       run = i.read.run;
       outcome = rw c.ending.ensures (outcome_of c.in-Err-step.stop c.loop-answer.tally i.exchanges _ _ _ _ _ _ _ _ _ _ _ _ i.read i.written i.refused i.no_memory c.in-Err-step.ensures);
     }
+
+pub returns-in-Err-write_answer-clause-too_much : goal.returns-in-Err-write_answer-clause-too_much
+returns-in-Err-write_answer-clause-too_much g c = too_much_exactly _ _ _ _ _ (returns-in-Err-write_answer-clause-session g c)
+
+pub returns-in-Err-step-clause-too_much : goal.returns-in-Err-step-clause-too_much
+returns-in-Err-step-clause-too_much g c = too_much_exactly _ _ _ _ _ (returns-in-Err-step-clause-session g c)
