@@ -6,3 +6,5 @@ pub mod Running
 pub mod Serving
 pub mod Causes
 pub mod Nets
+pub mod Putting
+pub mod Joining

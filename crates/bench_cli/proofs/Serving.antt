@@ -24,7 +24,7 @@ steps_too_long first reader s l₀ l₁ f₀ f₁ k = record {
   consumed = k.consumed;
   taken = k.taken;
   later = k.later;
-  answer = (k.answer.0, record { line = k.answer.1; begins = k.answer.3; takes = takes_too_long s k.answer.1 k.answer.2 });
+  answer = (k.answer.0, record { line = k.answer.1; begins = k.answer.3; takes = takes_too_long s k.answer.1 k.answer.2 }, tt);
 }
 
 -- a readable line that asks a request is answered as the request is

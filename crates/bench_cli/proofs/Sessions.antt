@@ -37,10 +37,10 @@ stepped-by : (es : List Exchange) (l₀ l₁ l₂ : Option (List ℕ)) (f₀ f�
     (p : ReadSofar es l₀ l₁ f₀ f₁ r s) (q : Steps r r' s s' l₁ l₂ f₁ f₂ (Ok answer))
     → ((r.held ++ q.read ≡ q.answer.1.line ++ 10 ∷ r'.held) × (r'.has_ended ≡ false))
     ⊎ ((r.held ++ q.read ≡ q.answer.1.line) × (q.answer.1.line ≢ []) × (r'.held ≡ []) × (r'.has_ended ≡ true) × IsAtEnd l₂)
-    → (n : ReadSofar (es ++ record { line = q.answer.1.line; reply = reply_of answer } ∷ []) l₀ l₂ f₀ f₂ r' s') × (length p.given < length n.given)
+    → (n : ReadSofar (es ++ record { line = q.answer.1.line; reply = reply_of s' answer } ∷ []) l₀ l₂ f₀ f₂ r' s') × (length p.given < length n.given)
 stepped-by es l₀ l₁ l₂ f₀ f₁ f₂ r r' s s' answer p q (inl k) =
     let line = q.answer.1.line in
-    let last : Exchange = record { line = line; reply = reply_of answer } in
+    let last : Exchange = record { line = line; reply = reply_of s' answer } in
     let e = parts-newline p.given r.held q.read line r'.held k.0 in
     let P : List ℕ → Type 0 = λ u. Consumes l₀ l₂ u in
     let Q : List (List ℕ) → Type 0 = λ u. Cuts (p.given ++ (line ++ 10 ∷ [])) u r'.has_ended in (
@@ -59,7 +59,7 @@ stepped-by es l₀ l₁ l₂ f₀ f₁ f₂ r r' s s' answer p q (inl k) =
     )
 stepped-by es l₀ l₁ l₂ f₀ f₁ f₂ r r' s s' answer p q (inr k) =
     let line = q.answer.1.line in
-    let last : Exchange = record { line = line; reply = reply_of answer } in
+    let last : Exchange = record { line = line; reply = reply_of s' answer } in
     let e = parts-end p.given r.held q.read line r'.held k.0 k.2 in
     let P : List ℕ → Type 0 = λ u. Consumes l₀ l₂ u in
     let Q : List (List ℕ) → Type 0 = λ u. Cuts (p.given ++ line) u r'.has_ended in (
@@ -80,7 +80,7 @@ stepped-by es l₀ l₁ l₂ f₀ f₁ f₂ r r' s s' answer p q (inr k) =
 -- a line was read and answered
 pub stepped : (es : List Exchange) (l₀ l₁ l₂ : Option (List ℕ)) (f₀ f₁ f₂ : ℕ) (r r' : Reading) (s s' : State) (answer : Answer)
     (p : ReadSofar es l₀ l₁ f₀ f₁ r s) (q : Steps r r' s s' l₁ l₂ f₁ f₂ (Ok answer))
-    → (n : ReadSofar (es ++ record { line = q.answer.1.line; reply = reply_of answer } ∷ []) l₀ l₂ f₀ f₂ r' s') × (length p.given < length n.given)
+    → (n : ReadSofar (es ++ record { line = q.answer.1.line; reply = reply_of s' answer } ∷ []) l₀ l₂ f₀ f₂ r' s') × (length p.given < length n.given)
 stepped es l₀ l₁ l₂ f₀ f₁ f₂ r r' s s' answer p q = stepped-by es l₀ l₁ l₂ f₀ f₁ f₂ r r' s s' answer p q q.answer.1.begins.cut
 
 -- the measure falls with each line

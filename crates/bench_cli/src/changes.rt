@@ -59,8 +59,8 @@ fn add_net(present: &mut Present, name: Name, width: u64) -> Answer
     }
 }
 
-// The place of the net with the name.
-fn net_of(present: &Present, name: &Name) -> Option<u16>
+/// The place of the net with the name.
+pub fn net_of(present: &Present, name: &Name) -> Option<u16>
     ensures place { result ≡ net_named present.now name.now }
     ensures within { IfSome result (λ place. place < length present.now.nets) }
 {

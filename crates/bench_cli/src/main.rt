@@ -17,6 +17,7 @@ mod session;
 mod state;
 #[cfg(test)]
 mod tests;
+mod texts;
 
 use bench_io::{Sink, Source, StdSink, StdSource, write_all};
 use std::alloc::Global;

@@ -5,6 +5,7 @@ ghost use Rattle.bench_cli.specs.Session.{Session, WhereTold};
 ghost use Rattle.bench_cli.specs.Causes.{TakesTooMuch};
 ghost use Rattle.bench_cli.specs.Turns.{Steps, tally_after, status_of, ending_of};
 ghost use Rattle.bench_cli.specs.Answers.{reply_of};
+ghost use Rattle.bench_cli.specs.State.{State};
 
 use crate::Status;
 use crate::replies::{Answer, Refusal, write_answer};
@@ -21,10 +22,10 @@ pub struct Tally {
 
 impl Tally {
     fn note(&mut self, answer: &Answer)
-        ensures { self.new ≡ tally_after self.old (reply_of answer.now) }
+        ensures { (s : State) → self.new ≡ tally_after self.old (reply_of s answer.now) }
     {
         match answer {
-            Answer::Nothing | Answer::Accepted => {}
+            Answer::Nothing | Answer::Accepted | Answer::Label { .. } => {}
             Answer::Refused(_) => self.refused = true,
             Answer::NoMemory => self.no_memory = true,
         }
@@ -106,7 +107,7 @@ pub fn run<S: Source, K: Sink>(alloc: Global, source: &mut S, sink: &mut K) -> S
         match step(&mut reader, &mut bench, source) {
             Ok(answer) => {
                 tally.note(&answer);
-                if let Err(_) = write_answer(&answer, sink) {
+                if let Err(_) = write_answer(bench.present(), &answer, sink) {
                     return Status::WriteFault;
                 }
             }

@@ -30,15 +30,15 @@ loop-answer-preserved g c =
     let i = c.loop-answer.invariant in
     let q = c.in-Ok-step.ensures in
     let n = stepped _ _ _ _ _ _ _ _ _ _ _ _ i.read q in
-    let last : Exchange = record { line = q.answer.1.line; reply = reply_of c.in-Ok-step.answer } in
+    let last : Exchange = record { line = q.answer.1.line; reply = reply_of c.step.new.bench c.in-Ok-step.answer } in
     let w = c.in_default.ensures in
     record {
       exchanges = i.exchanges ++ last ∷ [];
       read = n.0;
       written = writes_whole i.exchanges last _ _ _ i.written w.whole;
       sink_later = omega (arith, i.sink_later, w.later);
-      refused = noted_refused _ _ i.exchanges last c.note.ensures i.refused;
-      no_memory = noted_no_memory _ _ i.exchanges last c.note.ensures i.no_memory;
+      refused = noted_refused _ _ i.exchanges last (c.note.ensures c.step.new.bench) i.refused;
+      no_memory = noted_no_memory _ _ i.exchanges last (c.note.ensures c.step.new.bench) i.no_memory;
     }
 
 pub returns-in-Err-write_answer-clause-session : goal.returns-in-Err-write_answer-clause-session
@@ -46,7 +46,7 @@ returns-in-Err-write_answer-clause-session g c =
     let i = c.loop-answer.invariant in
     let q = c.in-Ok-step.ensures in
     let n = stepped _ _ _ _ _ _ _ _ _ _ _ _ i.read q in
-    let last : Exchange = record { line = q.answer.1.line; reply = reply_of c.in-Ok-step.answer } in
+    let last : Exchange = record { line = q.answer.1.line; reply = reply_of c.step.new.bench c.in-Ok-step.answer } in
     record {
       exchanges = i.exchanges ++ last ∷ [];
       state = c.step.new.bench;
