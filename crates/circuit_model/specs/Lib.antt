@@ -8,4 +8,5 @@ pub mod Names
 pub mod Kinds
 pub mod Present
 pub mod Padding
+pub mod Whole
 pub mod Kept

@@ -4,3 +4,6 @@
 mod width;
 
 pub use width::Width;
+
+#[cfg(test)]
+mod tests;

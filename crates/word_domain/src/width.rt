@@ -1,10 +1,11 @@
 // A number of bits, and the words of so many bits.
 
-ghost use Rattle.std.specs.Prelude.{◌≡◌, ◌≤◌, nat_le, ◌&&◌, if◌then◌else◌, Some};
+ghost use Rattle.std.specs.Prelude.{ℕ, ◌≡◌, ◌+◌, ◌-◌, ◌*◌, ◌%◌, ◌^◌, ◌<◌, ◌≤◌, ◌↔◌, IsTrue, IsSome, IfSome, ◌&&◌, nat_le, if◌then◌else◌, Some};
+ghost use Rattle.word_domain.specs.Words.{IsQuotient};
 
 use std::marker::Model;
 
-/// A number of bits from 1 to 32.
+/// A number of bits from 1 to 32. The words of a width are the numbers below two to its power.
 #[derive(Clone, Copy, PartialEq, Eq, Debug)]
 pub struct Width {
     bits: u32,
@@ -41,5 +42,65 @@ impl Width {
         ensures high { self ≤ 32 }
     {
         self.bits
+    }
+
+    /// The greatest word, all of whose bits are set.
+    pub fn mask(self) -> u64
+        ensures value { result ≡ 2 ^ self - 1 }
+        ensures low { 2 ≤ 2 ^ self }
+        ensures high { 2 ^ self ≤ 2 ^ 32 }
+    {
+        (1 << self.bits) - 1
+    }
+
+    /// Whether a number is a word of this width.
+    pub fn fits(self, value: u64) -> bool
+        ensures { IsTrue result ↔ (value < 2 ^ self) }
+    {
+        value <= self.mask()
+    }
+
+    /// The word with the other bits set.
+    pub fn complement(self, value: u64) -> u64
+        requires { value < 2 ^ self }
+        ensures value { result ≡ 2 ^ self - 1 - value }
+        ensures fits { result < 2 ^ self }
+    {
+        self.mask() - value
+    }
+
+    /// The sum without its carry.
+    pub fn sum_mod(self, a: u64, b: u64) -> u64
+        requires a_fits { a < 2 ^ self }
+        requires b_fits { b < 2 ^ self }
+        ensures value { result ≡ (a + b) % 2 ^ self }
+        ensures fits { result < 2 ^ self }
+    {
+        (a + b) & self.mask()
+    }
+
+    /// What is to be added to `b` for the sum, without its carry, to be `a`.
+    pub fn difference_mod(self, a: u64, b: u64) -> u64
+        requires a_fits { a < 2 ^ self }
+        requires b_fits { b < 2 ^ self }
+        ensures value { result ≡ (a + (2 ^ self - b)) % 2 ^ self }
+        ensures fits { result < 2 ^ self }
+        ensures sum { (b + result) % 2 ^ self ≡ a }
+    {
+        (a + (self.mask() + 1 - b)) & self.mask()
+    }
+
+    /// The word of this width that `a` is to be multiplied by for the product to be `z`.
+    pub fn quotient(self, z: u64, a: u64) -> Option<u64>
+        requires { 0 < a }
+        ensures found { IfSome result (IsQuotient self z a) }
+        ensures where_there_is_one { (q : ℕ) → IsQuotient self z a q → result ≡ Some q }
+    {
+        let quotient = z / a;
+        if quotient * a == z && self.fits(quotient) {
+            Some(quotient)
+        } else {
+            None
+        }
     }
 }

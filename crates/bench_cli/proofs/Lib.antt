@@ -1,0 +1,7 @@
+pub mod Lines
+pub mod Words
+pub mod Runs
+pub mod Sessions
+pub mod Running
+pub mod Serving
+pub mod Causes

@@ -1,0 +1,239 @@
+-- A session so far, and how it ends.
+use Rattle.std.proofs.Common.{◌≡◌, ◌≢◌, ◌⊎◌, ℕ, ◌+◌, ◌≤◌, ◌<◌, Bool, true, false, ◌||◌, List, [], ◌∷◌, ◌++◌, length, take, drop, Option, Some, None, Ok, Err, refl, sym, ◌∙◌, ap, subst, append_assoc, arith, inl, inr, length-append}
+use Rattle.std.specs.Io.KnownBytes.{Appends, Consumes, IsAtEnd}
+use Rattle.std.proofs.Math.Seq.{take-append_seam, drop-append_seam}
+use Rattle.bench_io.specs.Lines.{MOST_BYTES, HasNoNewline, lines_of, whole_lines_of, session_lines}
+use Rattle.bench_io.specs.Reading.{Reading, lines_ahead}
+use Rattle.bench_io.proofs.Bytes.{Consumes-then, Consumes-nothing, Appends-then}
+use Rattle.bench_cli.specs.Replies.{Exchange, text_of, transcript, lines_of_exchanges, has_refused, has_no_memory, is_refused, is_no_memory}
+use Rattle.bench_cli.specs.State.{State, empty}
+use Rattle.bench_cli.specs.Answers.{reply_of}
+use Rattle.bench_cli.specs.Turns.{Steps, ReadSofar, Cuts, ending_of, tally_after}
+use Rattle.bench_cli.specs.Session.{ReadsAll, ReadsTo, ReadsMost, ReadsSome, WhereTold, AnswersAll, Outcome, WritesPart}
+use Rattle.bench_cli.specs.Statuses.{status_by}
+use Rattle.bench_cli.specs.declared.session.Tally.{Tally}
+use Rattle.bench_cli.specs.declared.session.Stop.{Stop}
+use Rattle.bench_cli.specs.declared.session.Stop.TheVariants as stop
+use Rattle.bench_cli.specs.declared.replies.Answer.{Answer}
+use Rattle.bench_cli.proofs.Lines.{append-nil, Cuts-more, Cuts-last, Cuts-nothing, Cuts-whole, Cuts-all, Cuts-session}
+use Rattle.bench_cli.proofs.Runs.{Run-more, transcript-more, lines-more, refused-more, no_memory-more}
+
+true_false : true ≡ false → ⊥
+true_false e = cc
+
+-- where the bytes that were given and held, and those that were read, are these parts
+parts-newline : (given held read t after : List ℕ) → held ++ read ≡ t ++ 10 ∷ after → (given ++ held) ++ read ≡ (given ++ (t ++ 10 ∷ [])) ++ after
+parts-newline given held read t after e = append_assoc given held read ∙ (ap (λ u. given ++ u) e
+    ∙ (ap (λ u. given ++ u) (sym (append_assoc t (10 ∷ []) after)) ∙ sym (append_assoc given (t ++ 10 ∷ []) after)))
+
+parts-end : (given held read t after : List ℕ) → held ++ read ≡ t → after ≡ [] → (given ++ held) ++ read ≡ (given ++ t) ++ after
+parts-end given held read t after e z = append_assoc given held read ∙ (ap (λ u. given ++ u) e ∙ rw z (sym (append-nil (given ++ t))))
+
+some_bytes : (t : List ℕ) → t ≢ [] → 0 < length t
+some_bytes [] ne = absurd (ne refl)
+some_bytes (b ∷ t) ne = omega arith
+
+stepped-by : (es : List Exchange) (l₀ l₁ l₂ : Option (List ℕ)) (f₀ f₁ f₂ : ℕ) (r r' : Reading) (s s' : State) (answer : Answer)
+    (p : ReadSofar es l₀ l₁ f₀ f₁ r s) (q : Steps r r' s s' l₁ l₂ f₁ f₂ (Ok answer))
+    → ((r.held ++ q.read ≡ q.answer.1.line ++ 10 ∷ r'.held) × (r'.has_ended ≡ false))
+    ⊎ ((r.held ++ q.read ≡ q.answer.1.line) × (q.answer.1.line ≢ []) × (r'.held ≡ []) × (r'.has_ended ≡ true) × IsAtEnd l₂)
+    → (n : ReadSofar (es ++ record { line = q.answer.1.line; reply = reply_of answer } ∷ []) l₀ l₂ f₀ f₂ r' s') × (length p.given < length n.given)
+stepped-by es l₀ l₁ l₂ f₀ f₁ f₂ r r' s s' answer p q (inl k) =
+    let line = q.answer.1.line in
+    let last : Exchange = record { line = line; reply = reply_of answer } in
+    let e = parts-newline p.given r.held q.read line r'.held k.0 in
+    let P : List ℕ → Type 0 = λ u. Consumes l₀ l₂ u in
+    let Q : List (List ℕ) → Type 0 = λ u. Cuts (p.given ++ (line ++ 10 ∷ [])) u r'.has_ended in (
+      record {
+        run = Run-more _ _ _ es last p.run q.answer.1.takes;
+        given = p.given ++ (line ++ 10 ∷ []);
+        consumed = subst P e (Consumes-then _ _ _ _ _ p.consumed q.consumed);
+        cuts = subst Q (sym (lines-more es last)) (Cuts-more _ _ _ _ line p.cuts q.answer.0 k.1 q.answer.1.begins.without_newline);
+        taken = q.taken ∙ (ap (λ m. m + length q.read) p.taken ∙ (sym (length-append (p.given ++ r.held) q.read) ∙ ap length e));
+        within = q.answer.1.begins.within;
+        goes_on = q.answer.1.begins.goes_on;
+        ended = λ g. absurd (true_false (sym g ∙ k.1));
+        later = omega (arith, p.later, q.later);
+      },
+      omega (arith, length-append p.given (line ++ 10 ∷ []), length-append line (10 ∷ [])),
+    )
+stepped-by es l₀ l₁ l₂ f₀ f₁ f₂ r r' s s' answer p q (inr k) =
+    let line = q.answer.1.line in
+    let last : Exchange = record { line = line; reply = reply_of answer } in
+    let e = parts-end p.given r.held q.read line r'.held k.0 k.2 in
+    let P : List ℕ → Type 0 = λ u. Consumes l₀ l₂ u in
+    let Q : List (List ℕ) → Type 0 = λ u. Cuts (p.given ++ line) u r'.has_ended in (
+      record {
+        run = Run-more _ _ _ es last p.run q.answer.1.takes;
+        given = p.given ++ line;
+        consumed = subst P e (Consumes-then _ _ _ _ _ p.consumed q.consumed);
+        cuts = subst Q (sym (lines-more es last)) (Cuts-last _ _ _ _ line p.cuts q.answer.0 k.3 q.answer.1.begins.without_newline k.1);
+        taken = q.taken ∙ (ap (λ m. m + length q.read) p.taken ∙ (sym (length-append (p.given ++ r.held) q.read) ∙ ap length e));
+        within = q.answer.1.begins.within;
+        goes_on = q.answer.1.begins.goes_on;
+        ended = λ g. (k.2, k.4);
+        later = omega (arith, p.later, q.later);
+      },
+      omega (arith, length-append p.given line, some_bytes line k.1),
+    )
+
+-- a line was read and answered
+pub stepped : (es : List Exchange) (l₀ l₁ l₂ : Option (List ℕ)) (f₀ f₁ f₂ : ℕ) (r r' : Reading) (s s' : State) (answer : Answer)
+    (p : ReadSofar es l₀ l₁ f₀ f₁ r s) (q : Steps r r' s s' l₁ l₂ f₁ f₂ (Ok answer))
+    → (n : ReadSofar (es ++ record { line = q.answer.1.line; reply = reply_of answer } ∷ []) l₀ l₂ f₀ f₂ r' s') × (length p.given < length n.given)
+stepped es l₀ l₁ l₂ f₀ f₁ f₂ r r' s s' answer p q = stepped-by es l₀ l₁ l₂ f₀ f₁ f₂ r r' s s' answer p q q.answer.1.begins.cut
+
+-- the measure falls with each line
+pub ahead_falls : (es es' : List Exchange) (l₀ l₁ l₂ : Option (List ℕ)) (f₀ f₁ f₂ : ℕ) (r r' : Reading) (s s' : State)
+    (p : ReadSofar es l₀ l₁ f₀ f₁ r s) (n : ReadSofar es' l₀ l₂ f₀ f₂ r' s') → length p.given < length n.given → lines_ahead r' < lines_ahead r
+ahead_falls es es' l₀ l₁ l₂ f₀ f₁ f₂ r r' s s' p n h =
+    omega (arith, p.taken, n.taken, p.within, n.within, length-append p.given r.held, length-append n.given r'.held)
+
+nothing_more : (held left : List ℕ) → (held ≡ []) × (left ≡ []) → held ++ left ≡ []
+nothing_more held left e = rw (e.0, e.1) refl
+
+no_parts : (a b : List ℕ) → a ++ b ≡ [] → (a ≡ []) × (b ≡ [])
+no_parts [] b e = (refl, e)
+no_parts (x ∷ a) b e = absurd (cc)
+
+at_end : (ended : Bool) (left rest : List ℕ) → left ≡ rest → (ended ≡ true → left ≡ []) → (ended ≡ true) ⊎ (rest ≡ []) → rest ≡ []
+at_end ended left rest same h (inl e) = sym same ∙ h e
+at_end ended left rest same h (inr e) = e
+
+told_to : (es : List Exchange) (l₀ l₂ : Option (List ℕ)) (given more : List ℕ) (ended : Bool) → Cuts given (lines_of_exchanges es) ended → ended ≡ false → HasNoNewline more
+    → Consumes l₀ l₂ (given ++ more) → length (given ++ more) ≤ MOST_BYTES → WhereTold l₀ l₂ (ReadsTo (lines_of_exchanges es))
+told_to es None l₂ given more ended c e h k fits = tt
+told_to es (Some input) None given more ended c e h k fits = absurd k
+told_to es (Some input) (Some left) given more ended c e h k fits = record {
+  taken = given ++ more;
+  split = k;
+  fits = fits;
+  each = sym (Cuts-whole given _ ended more c e h);
+}
+
+most_parts : (given front : List ℕ) (last : ℕ) (left : List ℕ) → (given ++ (front ++ last ∷ [])) ++ left ≡ (given ++ front) ++ (last ∷ left)
+most_parts given front last left = simp append_assoc
+
+told_most : (es : List Exchange) (l₀ l₂ : Option (List ℕ)) (given front : List ℕ) (last : ℕ) (ended : Bool) → Cuts given (lines_of_exchanges es) ended → ended ≡ false → HasNoNewline front
+    → Consumes l₀ l₂ (given ++ (front ++ last ∷ [])) → length given + length front ≡ MOST_BYTES → WhereTold l₀ l₂ (ReadsMost (lines_of_exchanges es))
+told_most es None l₂ given front last ended c e h k size = tt
+told_most es (Some input) None given front last ended c e h k size = absurd k
+told_most es (Some input) (Some left) given front last ended c e h k size =
+    let n : length (given ++ front) ≡ MOST_BYTES = length-append given front ∙ size in
+    let split : input ≡ (given ++ front) ++ (last ∷ left) = k ∙ most_parts given front last left in
+    let split' : input ≡ ((given ++ front) ++ last ∷ []) ++ left = k ∙ ap (λ t. t ++ left) (sym (append_assoc given front (last ∷ []))) in
+    let n' : length ((given ++ front) ++ last ∷ []) ≡ MOST_BYTES + 1 = length-append (given ++ front) (last ∷ []) ∙ ap (λ m. m + 1) n in
+    let front_is : take MOST_BYTES input ≡ given ++ front = ap (λ t. take MOST_BYTES t) split ∙ (ap (λ m. take m ((given ++ front) ++ (last ∷ left))) (sym n) ∙ take-append_seam (given ++ front) (last ∷ left)) in
+    record {
+      more = omega (arith, n, ap length split, length-append (given ++ front) (last ∷ left));
+      each = sym (Cuts-whole given _ ended front c e h) ∙ ap whole_lines_of (sym front_is);
+      rest = sym (ap (λ t. drop (MOST_BYTES + 1) t) split' ∙ (ap (λ m. drop m (((given ++ front) ++ last ∷ []) ++ left)) (sym n') ∙ drop-append_seam ((given ++ front) ++ last ∷ []) left));
+    }
+
+-- the lines so far are the first ones, whatever comes
+pub reads_some : (es : List Exchange) (l₀ l₁ : Option (List ℕ)) (f₀ f₁ : ℕ) (r : Reading) (s : State) → ReadSofar es l₀ l₁ f₀ f₁ r s
+    → WhereTold l₀ l₁ (ReadsSome (lines_of_exchanges es))
+reads_some es None l₁ f₀ f₁ r s p = tt
+reads_some es (Some input) None f₀ f₁ r s p = absurd p.consumed
+reads_some es (Some input) (Some left) f₀ f₁ r s p =
+    let short : length p.given ≤ MOST_BYTES = omega (arith, p.taken, p.within, length-append p.given r.held) in
+    let split : input ≡ p.given ++ (r.held ++ left) = p.consumed ∙ append_assoc p.given r.held left in
+    let first = Cuts-session p.given (r.held ++ left) _ r.has_ended p.cuts short (λ e. nothing_more r.held left (p.ended e)) in
+    record {
+      read = p.given;
+      ahead = r.held;
+      split = split;
+      fits = omega (arith, p.taken, p.within);
+      each = sym (Cuts-all p.given _ r.has_ended p.cuts);
+      after = first.0;
+      first = ap session_lines split ∙ first.1;
+    }
+
+-- the end was met
+pub reads_all : (es : List Exchange) (l₀ l₁ l₂ : Option (List ℕ)) (f₀ f₁ f₂ : ℕ) (r r' : Reading) (s s' : State)
+    → ReadSofar es l₀ l₁ f₀ f₁ r s → Steps r r' s s' l₁ l₂ f₁ f₂ (Err stop.End) → WhereTold l₀ l₂ (ReadsAll (lines_of_exchanges es))
+reads_all es None l₁ l₂ f₀ f₁ f₂ r r' s s' p q = tt
+reads_all es (Some input) None l₂ f₀ f₁ f₂ r r' s s' p q = absurd p.consumed
+reads_all es (Some input) (Some left) None f₀ f₁ f₂ r r' s s' p q = absurd q.consumed
+reads_all es (Some input) (Some left) (Some rest) f₀ f₁ f₂ r r' s s' p q =
+    let none = no_parts r.held q.read q.answer.0 in
+    let same : left ≡ rest = q.consumed ∙ ap (λ t. t ++ rest) none.1 in
+    let end : rest ≡ [] = at_end r.has_ended left rest same (λ e. (p.ended e).1) q.answer.1 in
+    let all : input ≡ p.given = p.consumed ∙ rw (none.0, same, end) (append-nil (p.given ++ []) ∙ append-nil p.given) in
+    record {
+      fits = omega (arith, p.taken, p.within, length-append p.given r.held, ap length all);
+      each = sym (Cuts-all p.given _ r.has_ended p.cuts) ∙ ap lines_of (sym all);
+      end = end;
+    }
+
+-- a read failed
+pub reads_to : (es : List Exchange) (l₀ l₁ l₂ : Option (List ℕ)) (f₀ f₁ f₂ : ℕ) (r r' : Reading) (s s' : State)
+    → ReadSofar es l₀ l₁ f₀ f₁ r s → Steps r r' s s' l₁ l₂ f₁ f₂ (Err stop.Failed) → WhereTold l₀ l₂ (ReadsTo (lines_of_exchanges es))
+reads_to es l₀ l₁ l₂ f₀ f₁ f₂ r r' s s' p q = told_to es l₀ l₂ p.given (r.held ++ q.read) r.has_ended p.cuts q.answer.0 q.answer.1
+    (let P : List ℕ → Type 0 = λ u. Consumes l₀ l₂ u in subst P (append_assoc p.given r.held q.read) (Consumes-then _ _ _ _ _ p.consumed q.consumed))
+    (omega (arith, p.taken, q.taken, q.answer.3, length-append p.given r.held, length-append r.held q.read, length-append p.given (r.held ++ q.read)))
+
+-- too much came
+pub reads_most : (es : List Exchange) (l₀ l₁ l₂ : Option (List ℕ)) (f₀ f₁ f₂ : ℕ) (r r' : Reading) (s s' : State)
+    → ReadSofar es l₀ l₁ f₀ f₁ r s → Steps r r' s s' l₁ l₂ f₁ f₂ (Err stop.TooMuch) → WhereTold l₀ l₂ (ReadsMost (lines_of_exchanges es))
+reads_most es l₀ l₁ l₂ f₀ f₁ f₂ r r' s s' p q = told_most es l₀ l₂ p.given q.answer.1 q.answer.2 r.has_ended p.cuts q.answer.0 q.answer.4
+    (let P : List ℕ → Type 0 = λ u. Consumes l₀ l₂ u in subst P (append_assoc p.given r.held q.read ∙ ap (λ u. p.given ++ u) q.answer.3) (Consumes-then _ _ _ _ _ p.consumed q.consumed))
+    (omega (arith, p.taken, q.taken, q.answer.5, length-append p.given r.held, length-append r.held q.read, ap length q.answer.3, length-append q.answer.1 (q.answer.2 ∷ [])))
+
+-- nothing was read yet
+pub begun : (l : Option (List ℕ)) (f : ℕ) (r : Reading) → r.held ≡ [] → r.taken ≡ 0 → r.has_ended ≡ false → r.is_over ≡ false → ReadSofar [] l l f f r empty
+begun l f r held taken ended over = record {
+  run = refl;
+  given = [];
+  consumed = let P : List ℕ → Type 0 = λ u. Consumes l l u in subst P (sym held) (Consumes-nothing l);
+  cuts = let P : Bool → Type 0 = λ b. Cuts [] [] b in subst P (sym ended) Cuts-nothing;
+  taken = taken ∙ ap length (sym held);
+  within = omega (arith, taken);
+  goes_on = over;
+  ended = λ e. absurd (true_false (sym e ∙ ended));
+  later = omega arith;
+}
+
+all_answered : (no_memory refused : Bool) (es : List Exchange) (l₀ l₂ h₀ h₁ : Option (List ℕ)) → no_memory ≡ has_no_memory es → refused ≡ has_refused es
+    → WhereTold l₀ l₂ (ReadsAll (lines_of_exchanges es)) → Appends h₀ h₁ (transcript es)
+    → AnswersAll (status_by no_memory refused) es l₀ l₂ h₀ h₁
+all_answered no_memory refused es l₀ l₂ h₀ h₁ a b k w = record { reads = k; written = w; by_replies = rw (a, b) refl }
+
+outcome_at_end : (no_memory refused : Bool) (es : List Exchange) (l₀ l₂ h₀ h₁ : Option (List ℕ)) → AnswersAll (status_by no_memory refused) es l₀ l₂ h₀ h₁
+    → Outcome (status_by no_memory refused) es l₀ l₂ h₀ h₁
+outcome_at_end true refused es l₀ l₂ h₀ h₁ k = inl k
+outcome_at_end false true es l₀ l₂ h₀ h₁ k = k
+outcome_at_end false false es l₀ l₂ h₀ h₁ k = k
+
+-- how a session ends that stops
+pub outcome_of : (stop : Stop) (t : Tally) (es : List Exchange) (l₀ l₁ l₂ h₀ h₁ : Option (List ℕ)) (f₀ f₁ f₂ : ℕ) (r r' : Reading) (s s' : State)
+    → ReadSofar es l₀ l₁ f₀ f₁ r s → Appends h₀ h₁ (transcript es) → t.refused ≡ has_refused es → t.no_memory ≡ has_no_memory es
+    → Steps r r' s s' l₁ l₂ f₁ f₂ (Err stop) → Outcome (ending_of stop t) es l₀ l₂ h₀ h₁
+outcome_of stop.End t es l₀ l₁ l₂ h₀ h₁ f₀ f₁ f₂ r r' s s' p w a b q =
+    outcome_at_end t.no_memory t.refused es l₀ l₂ h₀ h₁ (all_answered t.no_memory t.refused es l₀ l₂ h₀ h₁ b a (reads_all es l₀ l₁ l₂ f₀ f₁ f₂ r r' s s' p q) w)
+outcome_of stop.Failed t es l₀ l₁ l₂ h₀ h₁ f₀ f₁ f₂ r r' s s' p w a b q = (reads_to es l₀ l₁ l₂ f₀ f₁ f₂ r r' s s' p q, w)
+outcome_of stop.TooMuch t es l₀ l₁ l₂ h₀ h₁ f₀ f₁ f₂ r r' s s' p w a b q = (reads_most es l₀ l₁ l₂ f₀ f₁ f₂ r r' s s' p q, w)
+
+-- the reply to the last line was written in part
+pub writes_part : (es : List Exchange) (last : Exchange) (h₀ h₁ h₂ : Option (List ℕ)) → Appends h₀ h₁ (transcript es)
+    → ((front : List ℕ) × (rest : List ℕ) × (text_of last.reply ≡ front ++ rest) × Appends h₁ h₂ front) → WritesPart (es ++ last ∷ []) h₀ h₂
+writes_part es last h₀ h₁ h₂ w (front, rest, split, k) = record {
+  first = es;
+  last = last;
+  front = front;
+  rest = rest;
+  each = refl;
+  split = split;
+  written = Appends-then _ _ _ _ _ w k;
+}
+
+-- the reply to the last line was written whole
+pub writes_whole : (es : List Exchange) (last : Exchange) (h₀ h₁ h₂ : Option (List ℕ)) → Appends h₀ h₁ (transcript es) → Appends h₁ h₂ (text_of last.reply)
+    → Appends h₀ h₂ (transcript (es ++ last ∷ []))
+writes_whole es last h₀ h₁ h₂ w k = let P : List ℕ → Type 0 = λ u. Appends h₀ h₂ u in subst P (sym (transcript-more es last)) (Appends-then _ _ _ _ _ w k)
+
+pub noted_refused : (t t' : Tally) (es : List Exchange) (last : Exchange) → t' ≡ tally_after t last.reply → t.refused ≡ has_refused es → t'.refused ≡ has_refused (es ++ last ∷ [])
+noted_refused t t' es last e h = ap (λ u. u.refused) e ∙ (ap (λ b. b || is_refused last.reply) h ∙ sym (refused-more es last))
+
+pub noted_no_memory : (t t' : Tally) (es : List Exchange) (last : Exchange) → t' ≡ tally_after t last.reply → t.no_memory ≡ has_no_memory es → t'.no_memory ≡ has_no_memory (es ++ last ∷ [])
+noted_no_memory t t' es last e h = ap (λ u. u.no_memory) e ∙ (ap (λ b. b || is_no_memory last.reply) h ∙ sym (no_memory-more es last))

@@ -1,0 +1,63 @@
+-- Words and numbers of a line.
+use Rattle.std.proofs.Common.{◌≡◌, ℕ, ◌+◌, ◌-◌, ◌*◌, ◌^◌, ◌≤◌, ◌<◌, true, false, List, [], ◌∷◌, ◌++◌, length, take, get_or, refl, sym, ◌∙◌, ap, arith, add-one}
+use Rattle.std.proofs.lemmas.List.{take_more}
+use Rattle.std.proofs.Math.Nat.{pow-succ'}
+use Rattle.bench_cli.specs.Grammar.{words_of, pieces_of, without_empty, is_blank, number_after}
+use Rattle.bench_cli.specs.Reading.{AreBlanks, HasNoBlank, BeginsBlank, BeginsWord}
+
+pub true_false : true ≡ false → ⊥
+true_false e = cc
+
+AreBlanks-append : (xs ys : List ℕ) → AreBlanks xs → AreBlanks ys → AreBlanks (xs ++ ys)
+AreBlanks-append [] ys p q = q
+AreBlanks-append (x ∷ xs) ys p q = (p.0, AreBlanks-append xs ys p.1 q)
+
+HasNoBlank-append : (xs ys : List ℕ) → HasNoBlank xs → HasNoBlank ys → HasNoBlank (xs ++ ys)
+HasNoBlank-append [] ys p q = q
+HasNoBlank-append (x ∷ xs) ys p q = (p.0, HasNoBlank-append xs ys p.1 q)
+
+pub AreBlanks-more : (xs : List ℕ) (i : ℕ) → i < length xs → AreBlanks (take i xs) → is_blank (get_or xs i 0) ≡ true → AreBlanks (take (i + 1) xs)
+AreBlanks-more xs i h p e = rw (take_more xs i 0 h) (AreBlanks-append (take i xs) _ p (e, tt))
+
+pub HasNoBlank-more : (xs : List ℕ) (i : ℕ) → i < length xs → HasNoBlank (take i xs) → is_blank (get_or xs i 0) ≡ false → HasNoBlank (take (i + 1) xs)
+HasNoBlank-more xs i h p e = rw (take_more xs i 0 h) (HasNoBlank-append (take i xs) _ p (e, tt))
+
+words-blank : (b : ℕ) (bytes : List ℕ) → is_blank b ≡ true → words_of (b ∷ bytes) ≡ words_of bytes
+words-blank b bytes e = rw e refl
+
+pub skipped : (blanks rest : List ℕ) → AreBlanks blanks → words_of (blanks ++ rest) ≡ words_of rest
+skipped [] rest h = refl
+skipped (b ∷ blanks) rest h = words-blank b (blanks ++ rest) h.0 ∙ skipped blanks rest h.1
+
+after : List ℕ → List (List ℕ)
+after [] = []
+after (b ∷ rest) = pieces_of rest
+
+pieces_front : (w rest : List ℕ) → HasNoBlank w → BeginsBlank rest → pieces_of (w ++ rest) ≡ w ∷ after rest
+unfolding after
+pieces_front [] [] h g = refl
+pieces_front [] (b ∷ rest) h g = rw g refl
+pieces_front (x ∷ w) rest h g = rw (h.0, pieces_front w rest h.1 g) refl
+
+words_after : (rest : List ℕ) → BeginsBlank rest → without_empty (after rest) ≡ words_of rest
+unfolding after
+words_after [] g = refl
+words_after (b ∷ rest) g = sym (words-blank b rest g)
+
+pub word_then : (w rest : List ℕ) → HasNoBlank w → 0 < length w → BeginsBlank rest → words_of (w ++ rest) ≡ w ∷ words_of rest
+word_then [] rest h some g = absurd (omega arith)
+word_then (x ∷ w) rest h some g = ap without_empty (pieces_front (x ∷ w) rest h g) ∙ ap (λ t. (x ∷ w) ∷ t) (words_after rest g)
+
+pub no_word : (front : List ℕ) → BeginsWord front → BeginsBlank front → words_of front ≡ []
+no_word [] p q = refl
+no_word (b ∷ front) p q = absurd (true_false (sym q ∙ p))
+
+number-append : (n b : ℕ) (xs : List ℕ) → number_after n (xs ++ b ∷ []) ≡ 10 * number_after n xs + (b - 48)
+number-append n b [] = refl
+number-append n b (x ∷ xs) = number-append (10 * n + (x - 48)) b xs
+
+pub number-more : (xs : List ℕ) (i n : ℕ) → i < length xs → n ≡ number_after 0 (take i xs) → 10 * n + (get_or xs i 0 - 48) ≡ number_after 0 (take (i + 1) xs)
+number-more xs i n h e = rw (take_more xs i 0 h) (ap (λ m. 10 * m + (get_or xs i 0 - 48)) e ∙ sym (number-append 0 (get_or xs i 0) (take i xs)))
+
+pub power-more : (n i d : ℕ) → n < 10 ^ i → d ≤ 57 → 10 * n + (d - 48) < 10 ^ (i + 1)
+power-more n i d h k = let e : 10 ^ (i + 1) ≡ 10 * 10 ^ i = rw add-one (pow-succ' 10 i) in rw e (omega arith)

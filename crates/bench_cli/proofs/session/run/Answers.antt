@@ -1,0 +1,64 @@
+use Rattle.std.proofs.Common.{arith, refl, [], ◌∷◌, sym, subst, ◌++◌}
+use Rattle.bench_io.proofs.Bytes.{Appends-nothing}
+use Rattle.bench_cli.specs.Replies.{Exchange}
+use Rattle.bench_cli.specs.Answers.{reply_of}
+use Rattle.bench_cli.specs.Turns.{ReadSofar}
+use Rattle.bench_cli.specs.State.{State}
+use Rattle.bench_cli.proofs.Sessions.{begun, stepped, ahead_falls, reads_some, outcome_of, writes_part, writes_whole, noted_refused, noted_no_memory}
+use Rattle.bench_cli.proofs.session.run.Goals as goal
+
+pub loop-answer-init : goal.loop-answer-init
+loop-answer-init g c = record {
+  exchanges = [];
+  read = let P : State → Type 0 = λ s. ReadSofar [] (g.S.Source.left c.args.source.now) (g.S.Source.left c.args.source.now) (g.S.Source.faults c.args.source.now) (g.S.Source.faults c.args.source.now) c.in-Ok.reader s in
+      subst P (sym c.new-bench.ensures) (begun _ _ c.in-Ok.reader c.in-Ok.ensures.0 c.in-Ok.ensures.1 c.in-Ok.ensures.2 c.in-Ok.ensures.3);
+  written = Appends-nothing _;
+  sink_later = omega arith;
+  refused = refl;
+  no_memory = refl;
+}
+
+pub loop-answer-smaller : goal.loop-answer-smaller
+loop-answer-smaller g c =
+    let i = c.loop-answer.invariant in
+    let n = stepped _ _ _ _ _ _ _ _ _ _ _ _ i.read c.in-Ok-step.ensures in
+    ahead_falls _ _ _ _ _ _ _ _ _ _ _ _ i.read n.0 n.1
+
+pub loop-answer-preserved : goal.loop-answer-preserved
+loop-answer-preserved g c =
+    let i = c.loop-answer.invariant in
+    let q = c.in-Ok-step.ensures in
+    let n = stepped _ _ _ _ _ _ _ _ _ _ _ _ i.read q in
+    let last : Exchange = record { line = q.answer.1.line; reply = reply_of c.in-Ok-step.answer } in
+    let w = c.in_default.ensures in
+    record {
+      exchanges = i.exchanges ++ last ∷ [];
+      read = n.0;
+      written = writes_whole i.exchanges last _ _ _ i.written w.whole;
+      sink_later = omega (arith, i.sink_later, w.later);
+      refused = noted_refused _ _ i.exchanges last c.note.ensures i.refused;
+      no_memory = noted_no_memory _ _ i.exchanges last c.note.ensures i.no_memory;
+    }
+
+pub returns-in-Err-write_answer-clause-session : goal.returns-in-Err-write_answer-clause-session
+returns-in-Err-write_answer-clause-session g c =
+    let i = c.loop-answer.invariant in
+    let q = c.in-Ok-step.ensures in
+    let n = stepped _ _ _ _ _ _ _ _ _ _ _ _ i.read q in
+    let last : Exchange = record { line = q.answer.1.line; reply = reply_of c.in-Ok-step.answer } in
+    record {
+      exchanges = i.exchanges ++ last ∷ [];
+      state = c.step.new.bench;
+      run = n.0.run;
+      outcome = (reads_some _ _ _ _ _ _ _ n.0, writes_part i.exchanges last _ _ _ i.written c.in-Err-write_answer.ensures.front);
+    }
+
+pub returns-in-Err-step-clause-session : goal.returns-in-Err-step-clause-session
+returns-in-Err-step-clause-session g c =
+    let i = c.loop-answer.invariant in
+    record {
+      exchanges = i.exchanges;
+      state = c.loop-answer.bench;
+      run = i.read.run;
+      outcome = rw c.ending.ensures (outcome_of c.in-Err-step.stop c.loop-answer.tally i.exchanges _ _ _ _ _ _ _ _ _ _ _ _ i.read i.written i.refused i.no_memory c.in-Err-step.ensures);
+    }

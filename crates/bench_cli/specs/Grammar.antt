@@ -1,0 +1,75 @@
+-- How a line is read.
+use Rattle.std.specs.Prelude.{◌≡◌, ◌⊎◌, ℕ, ◌+◌, ◌-◌, ◌*◌, ◌==◌, ◌≤◌, ◌<◌, Bool, ◌||◌, if◌then◌else◌, List, [], ◌∷◌, codes, length, take}
+use Rattle.std.specs.List.{All}
+use Rattle.bench_io.specs.Lines.{LONGEST}
+
+-- a tab, a carriage return and a space separate words
+abbrev pub is_blank : ℕ → Bool
+is_blank b = (b == 32) || (b == 9) || (b == 13)
+
+-- b begins the first of the pieces
+abbrev pub onto_piece : ℕ → List (List ℕ) → List (List ℕ)
+onto_piece b [] = (b ∷ []) ∷ []
+onto_piece b (piece ∷ pieces) = (b ∷ piece) ∷ pieces
+
+-- the bytes between blanks, empty ones too
+abbrev pub pieces_of : List ℕ → List (List ℕ)
+pieces_of [] = [] ∷ []
+pieces_of (b ∷ bytes) = if is_blank b then [] ∷ pieces_of bytes else onto_piece b (pieces_of bytes)
+
+abbrev pub without_empty : List (List ℕ) → List (List ℕ)
+without_empty [] = []
+without_empty ([] ∷ pieces) = without_empty pieces
+without_empty ((b ∷ bytes) ∷ pieces) = (b ∷ bytes) ∷ without_empty pieces
+
+-- the words of a line
+abbrev pub words_of : List ℕ → List (List ℕ)
+words_of line = without_empty (pieces_of line)
+
+-- a byte that a line may have: a tab, a carriage return, or one of printable ASCII
+abbrev pub IsPrintable : ℕ → Type 0
+IsPrintable b = (b ≡ 9) ⊎ (b ≡ 13) ⊎ ((32 ≤ b) × (b ≤ 126))
+
+-- a line that is not too long and has no other byte
+pub record IsReadable (line : List ℕ) : Type 0 where
+  pub short : length line ≤ LONGEST
+  pub printable : All IsPrintable line
+
+-- a line with these words asks for nothing: it has no word, or is a comment
+abbrev pub IsSilent : List (List ℕ) → Type 0
+IsSilent [] = Unit {0}
+IsSilent (word ∷ words) = take 1 word ≡ codes "#"
+
+-- a line that has no reply
+abbrev pub HasNoReply : List ℕ → Type 0
+HasNoReply line = IsReadable line × IsSilent (words_of line)
+
+abbrev pub IsDigit : ℕ → Type 0
+IsDigit b = (48 ≤ b) × (b ≤ 57)
+
+abbrev pub IsLetter : ℕ → Type 0
+IsLetter b = ((65 ≤ b) × (b ≤ 90)) ⊎ ((97 ≤ b) × (b ≤ 122))
+
+-- the number that the digits stand for, after those that stand for `before`
+abbrev pub number_after : ℕ → List ℕ → ℕ
+number_after before [] = before
+number_after before (b ∷ bytes) = number_after (10 * before + (b - 48)) bytes
+
+-- the word is this number, of 1 to 10 decimal digits
+pub record IsNumber (word : List ℕ) (n : ℕ) : Type 0 where
+  pub digits : All IsDigit word
+  pub some : 0 < length word
+  pub most : length word ≤ 10
+  pub value : n ≡ number_after 0 word
+
+-- a letter or `_`
+abbrev pub BeginsName : ℕ → Type 0
+BeginsName b = IsLetter b ⊎ (b ≡ 95)
+
+abbrev pub ContinuesName : ℕ → Type 0
+ContinuesName b = BeginsName b ⊎ IsDigit b
+
+-- a name, of 1 to 32 bytes: a letter or `_`, and then letters, digits and `_`
+abbrev pub IsName : List ℕ → Type 0
+IsName [] = ⊥
+IsName (first ∷ others) = BeginsName first × All ContinuesName others × (length (first ∷ others) ≤ 32)

@@ -1,0 +1,11 @@
+pub mod Statuses
+pub mod Words
+pub mod Grammar
+pub mod Requests
+pub mod Reading
+pub mod Replies
+pub mod Answers
+pub mod State
+pub mod Session
+pub mod Causes
+pub mod Turns

@@ -1,0 +1,19 @@
+-- The words of the command line.
+use Rattle.std.specs.Prelude.{◌≡◌, ℕ, List, [], ◌∷◌, ◌++◌, codes, map, Option, String}
+use Rattle.std.specs.Io.KnownBytes.{Appends}
+use Rattle.std.specs.String.{string_bytes}
+use Rattle.bench_cli.specs.declared.Status.{Status}
+use Rattle.bench_cli.specs.declared.Status.TheVariants.{Usage, WriteFault}
+
+-- the words ask for a session
+abbrev pub IsRun : {Z : Type 0} → List (String Z) → Type 0
+IsRun words = map string_bytes words ≡ codes "run" ∷ []
+
+abbrev pub usage_line : List ℕ
+usage_line = codes "usage: gde run | run order N | make N SEED\n"
+
+-- The usage line was written, or a front of it where a write failed.
+abbrev pub TellsUsage : Status → (before now : Option (List ℕ)) → Type 0
+TellsUsage Usage before now = Appends before now usage_line
+TellsUsage WriteFault before now = (front rest : List ℕ) × (usage_line ≡ front ++ rest) × Appends before now front
+TellsUsage status before now = ⊥

@@ -1,0 +1,157 @@
+// What the lines of a session ask.
+ghost use Rattle.std.specs.Prelude.{◌≡◌, ◌≢◌, ℕ, List, [], ◌∷◌, MatchOption};
+ghost use Rattle.bench_cli.specs.Grammar.{words_of, IsSilent};
+ghost use Rattle.bench_cli.specs.Requests.{AreNetWords, ArePartWords, AreMeasureWords, AreLabelWords, IsAsked};
+
+use crate::reading::{next_word, read_number};
+use circuit_model::{Kind, Name};
+
+/// A change of the present.
+#[derive(Clone, Copy, PartialEq, Eq, Debug)]
+pub enum Change {
+    /// A net of this name, with words of so many bits.
+    Net { name: Name, width: u64 },
+    /// A component of this name and kind at nets of these names, in order of ports. Unused places repeat the last one.
+    Add {
+        name: Name,
+        kind: Kind,
+        nets: [Name; 3],
+    },
+    /// A word seen at the cell of a net at a cycle.
+    Measure { net: Name, cycle: u64, value: u64 },
+}
+
+/// A question on the present.
+#[derive(Clone, Copy, PartialEq, Eq, Debug)]
+pub enum Query {
+    /// What follows at the cell of a net at a cycle.
+    Label { net: Name, cycle: u64 },
+}
+
+/// What a line asks.
+#[derive(Clone, Copy, PartialEq, Eq, Debug)]
+pub enum Request {
+    /// Nothing: the line is blank or a comment.
+    Nothing,
+    Change(Change),
+    Query(Query),
+}
+
+// The word, where there is no other.
+fn only_word(bytes: &[u8]) -> Option<&[u8]>
+    ensures { MatchOption result ((a : List ℕ) → words_of bytes.now ≡ a ∷ [] → ⊥) (λ a. words_of bytes.now ≡ a.now ∷ []) }
+{
+    let (word, rest) = next_word(bytes)?;
+    match next_word(rest) {
+        None => Some(word),
+        Some(_) => None,
+    }
+}
+
+// Both words, where there are two.
+fn two_words(bytes: &[u8]) -> Option<(&[u8], &[u8])>
+    ensures { MatchOption result ((a b : List ℕ) → words_of bytes.now ≡ a ∷ b ∷ [] → ⊥) (λ found. words_of bytes.now ≡ found.0.now ∷ found.1.now ∷ []) }
+{
+    let (first, rest) = next_word(bytes)?;
+    let second = only_word(rest)?;
+    Some((first, second))
+}
+
+// All words, where there are four.
+fn four_words(bytes: &[u8]) -> Option<(&[u8], &[u8], &[u8], &[u8])>
+    ensures { MatchOption result ((a b c d : List ℕ) → words_of bytes.now ≡ a ∷ b ∷ c ∷ d ∷ [] → ⊥)
+        (λ found. words_of bytes.now ≡ found.0.now ∷ found.1.now ∷ found.2.now ∷ found.3.now ∷ []) }
+{
+    let (first, rest) = next_word(bytes)?;
+    let (second, rest) = next_word(rest)?;
+    let (third, fourth) = two_words(rest)?;
+    Some((first, second, third, fourth))
+}
+
+// What follows the word `net`: a name and a width.
+fn read_net(bytes: &[u8]) -> Option<(Name, u64)>
+    ensures { MatchOption result ((name : List ℕ) (width : ℕ) → AreNetWords (words_of bytes.now) name width → ⊥)
+        (λ found. AreNetWords (words_of bytes.now) found.0 found.1) }
+{
+    let (name, bits) = two_words(bytes)?;
+    let name = Name::new(name)?;
+    let width = read_number(bits)?;
+    Some((name, width))
+}
+
+// What follows the word of a kind with three ports: a name, and the names of three nets.
+fn read_part(bytes: &[u8]) -> Option<(Name, [Name; 3])>
+    ensures { MatchOption result ((name : List ℕ) (nets : List (List ℕ)) → ArePartWords (words_of bytes.now) name nets → ⊥)
+        (λ found. ArePartWords (words_of bytes.now) found.0 found.1) }
+{
+    let (name, a, b, z) = four_words(bytes)?;
+    let name = Name::new(name)?;
+    let a = Name::new(a)?;
+    let b = Name::new(b)?;
+    let z = Name::new(z)?;
+    Some((name, [a, b, z]))
+}
+
+// What follows the word `measure`: a net at cycle 0, and a value.
+fn read_measure(bytes: &[u8]) -> Option<(Name, u64)>
+    ensures { MatchOption result ((net : List ℕ) (cycle value : ℕ) → AreMeasureWords (words_of bytes.now) net cycle value → ⊥)
+        (λ found. AreMeasureWords (words_of bytes.now) found.0 0 found.1) }
+{
+    let (cell, value) = two_words(bytes)?;
+    let net = Name::new(cell)?;
+    let value = read_number(value)?;
+    Some((net, value))
+}
+
+// What follows the word `label`: a net at cycle 0.
+fn read_label(bytes: &[u8]) -> Option<Name>
+    ensures { MatchOption result ((net : List ℕ) (cycle : ℕ) → AreLabelWords (words_of bytes.now) net cycle → ⊥)
+        (λ net. AreLabelWords (words_of bytes.now) net 0) }
+{
+    Name::new(only_word(bytes)?)
+}
+
+// What a line asks that begins with a word that begins no comment.
+fn read_command(command: &[u8], rest: &[u8]) -> Option<Request>
+    requires { IsSilent (command.now ∷ words_of rest.now) → ⊥ }
+    ensures { IsAsked (command.now ∷ words_of rest.now) result }
+{
+    if command == b"net".as_slice() {
+        let (name, width) = read_net(rest)?;
+        return Some(Request::Change(Change::Net { name, width }));
+    }
+    if command == b"add".as_slice() {
+        let (name, nets) = read_part(rest)?;
+        return Some(Request::Change(Change::Add {
+            name,
+            kind: Kind::Add,
+            nets,
+        }));
+    }
+    if command == b"measure".as_slice() {
+        let (net, value) = read_measure(rest)?;
+        return Some(Request::Change(Change::Measure {
+            net,
+            cycle: 0,
+            value,
+        }));
+    }
+    if command == b"label".as_slice() {
+        let net = read_label(rest)?;
+        return Some(Request::Query(Query::Label { net, cycle: 0 }));
+    }
+    None
+}
+
+/// What the line asks, if that is something that there is.
+pub fn read_request(line: &[u8]) -> Option<Request>
+    ensures { IsAsked (words_of line.now) result }
+{
+    let Some((command, rest)) = next_word(line) else {
+        return Some(Request::Nothing);
+    };
+    if command[0] == b'#' {
+        return Some(Request::Nothing);
+    }
+    read_command(command, rest)
+}

@@ -1,0 +1,149 @@
+// How cells, facts and environments are written, without memory.
+ghost use Rattle.std.specs.Prelude.{◌≡◌, ◌<◌, ◌==◌, ◌++◌, codes, decimal, length, slice_get, Some, IsTrue, ◌∷◌, [], if◌then◌else◌};
+ghost use Rattle.std.specs.List.{join_with_byte};
+ghost use Rattle.bench_cli.specs.Puts.{Puts};
+ghost use Rattle.present_closure.specs.Finding.{members};
+ghost use Rattle.bench_cli.specs.Texts.{cell_text, fact_text, part_names_in, cells_in, environment_text, label_line};
+
+use present_closure::Environment;
+use bench_io::{Sink, write_all};
+use circuit_model::{Cell, Fact, Present};
+use itoa::Buffer;
+
+/// Writes the bytes, unless a write has failed before. It answers whether one has failed.
+fn put<K: Sink>(sink: &mut K, failed: bool, bytes: &[u8]) -> bool
+    ensures { Puts failed result (K.held sink.old) (K.held sink.new) (K.faults sink.old) (K.faults sink.new) bytes.now }
+{
+    if failed {
+        return true;
+    }
+    write_all(sink, bytes).is_err()
+}
+
+fn put_number<K: Sink>(sink: &mut K, failed: bool, number: u64) -> bool
+    ensures { Puts failed result (K.held sink.old) (K.held sink.new) (K.faults sink.old) (K.faults sink.new) (decimal number) }
+{
+    let mut buffer = Buffer::new();
+    put(sink, failed, buffer.format(number).as_bytes())
+}
+
+// A piece of a list, after a comma unless it is the first.
+fn put_piece<K: Sink>(sink: &mut K, failed: bool, is_first: bool, piece: &[u8]) -> bool
+    ensures { Puts failed result (K.held sink.old) (K.held sink.new) (K.faults sink.old) (K.faults sink.new) (if is_first then piece.now else codes "," ++ piece.now) }
+{
+    if is_first {
+        return put(sink, failed, piece);
+    }
+    let failed = put(sink, failed, b",");
+    put(sink, failed, piece)
+}
+
+fn put_cycle<K: Sink>(sink: &mut K, failed: bool, cycle: u8) -> bool
+    ensures { Puts failed result (K.held sink.old) (K.held sink.new) (K.faults sink.old) (K.faults sink.new) (if cycle == 0 then [] else codes "@" ++ decimal cycle) }
+{
+    if cycle == 0 {
+        return put(sink, failed, b"");
+    }
+    let failed = put(sink, failed, b"@");
+    put_number(sink, failed, cycle as u64)
+}
+
+fn put_cell<K: Sink>(sink: &mut K, failed: bool, present: &Present, cell: Cell) -> bool
+    requires { cell.net < length present.now.nets }
+    ensures { Puts failed result (K.held sink.old) (K.held sink.new) (K.faults sink.old) (K.faults sink.new) (cell_text present.now cell) }
+{
+    let (name, _) = present.net_at(cell.net);
+    let failed = put(sink, failed, name.bytes());
+    put_cycle(sink, failed, cell.cycle)
+}
+
+fn put_fact<K: Sink>(sink: &mut K, failed: bool, present: &Present, fact: Fact) -> bool
+    requires { fact.cell.net < length present.now.nets }
+    ensures { Puts failed result (K.held sink.old) (K.held sink.new) (K.faults sink.old) (K.faults sink.new) (fact_text present.now fact) }
+{
+    let failed = put_cell(sink, failed, present, fact.cell);
+    let failed = put(sink, failed, b"=");
+    put_number(sink, failed, fact.value)
+}
+
+// The names of the components in the set, in order.
+fn put_parts<K: Sink>(sink: &mut K, failed: bool, present: &Present, from: &Environment) -> bool
+    ensures { Puts failed result (K.held sink.old) (K.held sink.new) (K.faults sink.old) (K.faults sink.new) (join_with_byte 44 (part_names_in (members from.now) 0 present.now.parts)) }
+{
+    let mut failed = failed;
+    let mut is_first = true;
+    for place in 0..present.parts() {
+        let part = present.part_at(place);
+        if from.has_part(place) {
+            failed = put_piece(sink, failed, is_first, part.name.bytes());
+            is_first = false;
+        }
+    }
+    failed
+}
+
+// A cell of a list, after a comma unless it is the first.
+fn put_next_cell<K: Sink>(
+    sink: &mut K,
+    failed: bool,
+    is_first: bool,
+    present: &Present,
+    cell: Cell,
+) -> bool
+    requires { cell.net < length present.now.nets }
+    ensures { Puts failed result (K.held sink.old) (K.held sink.new) (K.faults sink.old) (K.faults sink.new) (if is_first then cell_text present.now cell else codes "," ++ cell_text present.now cell) }
+{
+    if is_first {
+        return put_cell(sink, failed, present, cell);
+    }
+    let failed = put(sink, failed, b",");
+    put_cell(sink, failed, present, cell)
+}
+
+// The measured cells in the set, in order.
+fn put_cells<K: Sink>(sink: &mut K, failed: bool, present: &Present, from: &Environment) -> bool
+    ensures { Puts failed result (K.held sink.old) (K.held sink.new) (K.faults sink.old) (K.faults sink.new) (join_with_byte 44 (cells_in present.now (members from.now) present.now.readings)) }
+{
+    let mut failed = failed;
+    let mut is_first = true;
+    for place in 0..present.readings() {
+        let cell = present.reading(place).cell;
+        if from.has_cell(cell) {
+            failed = put_next_cell(sink, failed, is_first, present, cell);
+            is_first = false;
+        }
+    }
+    failed
+}
+
+fn put_environment<K: Sink>(
+    sink: &mut K,
+    failed: bool,
+    present: &Present,
+    from: &Environment,
+) -> bool
+    ensures { Puts failed result (K.held sink.old) (K.held sink.new) (K.faults sink.old) (K.faults sink.new) (environment_text present.now (members from.now)) }
+{
+    let failed = put(sink, failed, b"{");
+    let failed = put_parts(sink, failed, present, from);
+    let failed = put(sink, failed, b";");
+    let failed = put_cells(sink, failed, present, from);
+    put(sink, failed, b"}")
+}
+
+/// A line of a label: a fact and an environment from which it follows.
+pub fn put_label_line<K: Sink>(
+    sink: &mut K,
+    failed: bool,
+    present: &Present,
+    fact: Fact,
+    from: &Environment,
+) -> bool
+    requires { fact.cell.net < length present.now.nets }
+    ensures { Puts failed result (K.held sink.old) (K.held sink.new) (K.faults sink.old) (K.faults sink.new) (label_line present.now fact (members from.now)) }
+{
+    let failed = put_fact(sink, failed, present, fact);
+    let failed = put(sink, failed, b" ");
+    let failed = put_environment(sink, failed, present, from);
+    put(sink, failed, b"\n")
+}

@@ -1,0 +1,4 @@
+pub mod Ports
+pub mod Functions
+pub mod Latin
+pub mod Adding

@@ -1,0 +1,113 @@
+-- Where nothing is left to put in, the table is the closure of everything.
+use Rattle.std.proofs.Common.{◌≡◌, ◌≢◌, ℕ, zero, suc, ◌<◌, Bool, true, false, IsTrue, ◌&&◌, ◌==◌, nat_eq, List, [], ◌∷◌, length, map, Option, Some, None, is_some, slice_get, slice_index_or, if◌then◌else◌, refl, sym, ap, ap₂, subst, ◌∙◌, arith}
+use Rattle.std.specs.List.{Contains}
+use Rattle.std.specs.Option.{option_map}
+use Rattle.std.proofs.lemmas.Option.{slice_get-map}
+use Rattle.std.proofs.lemmas.Bool.Decides.{nat_tests}
+use Rattle.circuit_model.specs.declared.model.Cell.{Cell}
+use Rattle.circuit_model.specs.declared.model.Fact.{Fact}
+use Rattle.circuit_model.specs.declared.model.Instance.{Instance}
+use Rattle.circuit_model.specs.declared.model.Assumption.{Assumption}
+use Rattle.circuit_model.specs.declared.model.Assumption.TheVariants.{Part, Reading}
+use Rattle.circuit_model.specs.declared.present.Component.{Component}
+use Rattle.circuit_model.specs.Closure.{fact, AreHeld, AreTwoWords, IsForced, IsRefuted, Follows}
+use Rattle.circuit_model.specs.Stock.{IsChosen, Has, IsRefutedBy}
+use Rattle.circuit_model.specs.Diagnoses.{Place, AtPart, AtCell}
+use Rattle.circuit_model.specs.Present.{Setup, is_cell, reading_in}
+use Rattle.circuit_model.specs.Whole.{stock, everything}
+use Rattle.circuit_model.proofs.Rounds.{IsClosed, Follows-within, Clashes-within}
+use Rattle.present_closure.specs.Closing.{Table, word_at, IsIn, HasReadings, IsSettled, IsSettledAt}
+
+same_cell : (c d : Cell) → is_cell c d ≡ true → c ≡ d
+same_cell c d e =
+    let net : c.net ≡ d.net = grind (arith, nat_tests) in
+    let cycle : c.cycle ≡ d.cycle = grind (arith, nat_tests) in
+    ap₂ (λ (n t : ℕ). let d : Cell = record { net = n; cycle = t } in d) net cycle
+
+-- a measured word is one of the measurements
+abbrev Measured : List Fact → Cell → ℕ → Type 0
+Measured readings c v = (f : Fact) × Contains readings f × (f.cell ≡ c) × (f.value ≡ v)
+
+measured_first : (f : Fact) (readings : List Fact) (c : Cell) (v : ℕ) (b : Bool) → is_cell f.cell c ≡ b → (if b then Some f.value else reading_in readings c) ≡ Some v → (reading_in readings c ≡ Some v → Measured readings c v) → Measured (f ∷ readings) c v
+measured_first f readings c v true is e rest = (f, (0, omega arith, refl), same_cell f.cell c is, cc)
+measured_first f readings c v false is e rest =
+    let r : Measured readings c v = rest e in
+    (r.0, (suc r.1.0, omega (arith, r.1.1), r.1.2), r.2, r.3)
+
+reading_in_some : (readings : List Fact) (c : Cell) (v : ℕ) → reading_in readings c ≡ Some v → Measured readings c v
+reading_in_some [] c v e = cc
+reading_in_some (f ∷ readings) c v e =
+    measured_first f readings c v (is_cell f.cell c) refl e (λ h. reading_in_some readings c v h)
+
+not_part : (o : Option ℕ) (c : Cell) (part : List Instance) → option_map (λ v. Reading (fact c v)) o ≡ Some (Part part) → ⊥
+not_part None c part e = cc
+not_part (Some v) c part e = cc
+
+not_reading : (o : Option (List Instance)) (f : Fact) → option_map Part o ≡ Some (Reading f) → ⊥
+not_reading None f e = cc
+not_reading (Some part) f e = cc
+
+is_reading : (o : Option ℕ) (c : Cell) (f : Fact) → option_map (λ v. Reading (fact c v)) o ≡ Some (Reading f) → (o ≡ Some f.value) × (c ≡ f.cell)
+is_reading None c f e = cc
+is_reading (Some v) c f e = let same : fact c v ≡ f = cc in (ap (λ (f : Fact). Some f.value) same, ap (λ (f : Fact). f.cell) same)
+
+-- the component of an assumed part
+part_at : (components : List Component) (place : ℕ) (part : List Instance) → option_map Part (slice_get (map (λ c. c.part) components) place) ≡ Some (Part part) → (c : Component) × (slice_get components place ≡ Some c) × (c.part ≡ part)
+part_at [] place part e = cc
+part_at (c ∷ components) zero part e = (c, refl, cc)
+part_at (c ∷ components) (suc place) part e = part_at components place part e
+
+module _ (s : Setup) (table : Table) (cycles : (f : Fact) → Contains s.readings f → f.cell.cycle ≡ 0) (readings : HasReadings s table) (settled : IsSettled s table) where
+  abbrev A : Assumption → Type 0
+  A = IsChosen (stock s) (everything s)
+
+  -- an assumed part is the one of a component
+  component_of : (part : List Instance) → A (Part part) → (place : ℕ) × (c : Component) × (slice_get s.parts place ≡ Some c) × (c.part ≡ part)
+  component_of part a = elim a.name as (λ k. stock s k ≡ Some (Part part) → (place : ℕ) × (c : Component) × (slice_get s.parts place ≡ Some c) × (c.part ≡ part)) [
+    | AtPart place ↦ λ e. let p : (c : Component) × (slice_get s.parts place ≡ Some c) × (c.part ≡ part) = part_at s.parts place part e in (place, p.0, p.1, p.2)
+    | AtCell c ↦ λ e. absurd (not_part _ c part e)
+  ] a.named
+
+  -- an assumed reading is a measurement
+  reading_of : (f : Fact) → A (Reading f) → IsIn table f
+  reading_of f a = elim a.name as (λ k. stock s k ≡ Some (Reading f) → IsIn table f) [
+    | AtPart place ↦ λ e. absurd (not_reading _ f e)
+    | AtCell c ↦ λ e. is_in c e
+  ] a.named where
+    is_in : (c : Cell) → stock s (AtCell c) ≡ Some (Reading f) → IsIn table f
+    is_in c e =
+        let r : (reading_in s.readings c ≡ Some f.value) × (c ≡ f.cell) = is_reading (reading_in s.readings c) c f e in
+        let m : Measured s.readings c f.value = reading_in_some s.readings c f.value r.0 in
+        let cell : m.0.cell ≡ f.cell = m.2 ∙ r.1 in
+        let net : m.0.cell.net ≡ f.cell.net = ap (λ (c : Cell). c.net) cell in
+        let word : word_at table m.0.cell.net ≡ Some m.0.value = readings m.0 m.1 in
+        record {
+          cycle = ap (λ (c : Cell). c.cycle) (sym cell) ∙ cycles m.0 m.1;
+          word = ap (λ (n : ℕ). word_at table n) (sym net) ∙ (word ∙ ap (λ (v : ℕ). Some v) m.3);
+        }
+
+  settled_at : (part : List Instance) → A (Part part) → (instance : Instance) → Contains part instance → (known : List (Option ℕ)) → AreHeld (IsIn table) instance.cells known → IsSettledAt table instance known
+  settled_at part a instance of_part known held =
+      let c : (place : ℕ) × (c : Component) × (slice_get s.parts place ≡ Some c) × (c.part ≡ part) = component_of part a in
+      let P : List Instance → Type 0 = λ part. Contains part instance in
+      settled c.0 c.1 c.2 instance (subst P (sym c.3) of_part) known held
+
+  closed : IsClosed A (IsIn table)
+  closed = record {
+    readings = reading_of;
+    forced = λ f i. (settled_at i.part i.assumed i.instance i.of_part i.known i.from).forced i.port f.value f.cell i.at i.forces;
+  }
+
+  one_word : AreTwoWords (IsIn table) → ⊥
+  one_word t =
+      let a : word_at table t.cell.net ≡ Some t.low = t.low_holds.word in
+      let b : word_at table t.cell.net ≡ Some t.high = t.high_holds.word in
+      t.differ cc
+
+  -- what follows from everything is held
+  pub quiet_complete : (f : Fact) → Has (stock s) f (everything s) → IsIn table f
+  quiet_complete f h = Follows-within A (IsIn table) closed f h
+
+  -- and nothing clashes
+  pub quiet_consistent : IsRefutedBy (stock s) (everything s) → ⊥
+  quiet_consistent clash = Clashes-within A (IsIn table) closed one_word (λ r. (settled_at r.part r.assumed r.instance r.of_part r.known r.from).fine r.refutes) clash

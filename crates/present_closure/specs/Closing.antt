@@ -1,0 +1,117 @@
+-- Closing a present of one cycle, word by word.
+use Rattle.std.specs.Prelude.{◌≡◌, ◌≢◌, ℕ, ◌<◌, ◌^◌, ◌⊎◌, ◌&&◌, nat_lt, Bool, false, if◌then◌else◌, IsTrue, List, [], ◌∷◌, length, map, count_by, Option, Some, None, is_none, slice_get, slice_index_or, slice_set}
+use Rattle.std.specs.List.{Contains}
+use Rattle.std.specs.Option.{option_map, option_and_then}
+use Rattle.environment_sets.specs.Sets.{Set, ◌⊆◌}
+use Rattle.circuit_model.specs.declared.model.Cell.{Cell}
+use Rattle.circuit_model.specs.declared.model.Fact.{Fact}
+use Rattle.circuit_model.specs.declared.model.Instance.{Instance}
+use Rattle.circuit_model.specs.declared.model.Assumption.TheVariants.{Part}
+use Rattle.circuit_model.specs.declared.present.Component.{Component}
+use Rattle.circuit_model.specs.Closure.{fact, AreHeld}
+use Rattle.circuit_model.specs.Inference.{Forces, Refutes}
+use Rattle.circuit_model.specs.Lawful.{IsLawful}
+use Rattle.circuit_model.specs.Kinds.{cell_at}
+use Rattle.circuit_model.specs.Stock.{IsEnvironment, Has, IsRefutedBy}
+use Rattle.circuit_model.specs.Diagnoses.{Place, AtPart}
+use Rattle.circuit_model.specs.Present.{Setup, width_of}
+use Rattle.circuit_model.specs.Whole.{stock, everything}
+use Rattle.present_closure.specs.declared.table.Held.{Held}
+use Rattle.present_closure.specs.declared.table.Step.{Step}
+use Rattle.present_closure.specs.declared.table.Step.TheVariants.{Quiet, Grew, Clash}
+use Rattle.present_closure.specs.Finding.{members}
+
+-- what is held at each net
+abbrev pub Table : Type 0
+Table = List (Option Held)
+
+abbrev pub held_at : Table → ℕ → Option Held
+held_at table net = slice_index_or table net None
+
+abbrev pub value_of : Held → ℕ
+value_of h = h.value
+
+abbrev pub word_at : Table → ℕ → Option ℕ
+word_at table net = option_map value_of (held_at table net)
+
+-- the table has the word at the cell
+pub record IsIn (table : Table) (f : Fact) : Type 0 where
+  pub cycle : f.cell.cycle ≡ 0
+  pub word : word_at table f.cell.net ≡ Some f.value
+
+-- the word fits the net, and follows from what it is said to follow from
+pub record IsBacked (s : Setup) (net : ℕ) (h : Held) : Type 0 where
+  pub fits : h.value < 2 ^ width_of s net
+  pub environment : IsEnvironment (stock s) (members h.from)
+  pub follows : Has (stock s) (fact (cell_at 0 net) h.value) (members h.from)
+
+-- a place for each net, and each word that is held follows
+pub record IsSound (s : Setup) (table : Table) : Type 0 where
+  pub wide : length table ≡ length s.nets
+  pub backed : (net : ℕ) (h : Held) → held_at table net ≡ Some h → IsBacked s net h
+
+-- each measured word is held
+abbrev pub HasReadings : Setup → Table → Type 0
+HasReadings s table = (f : Fact) → Contains s.readings f → word_at table f.cell.net ≡ Some f.value
+
+-- what is held at a port that the choice names
+abbrev pub kept_at : Table → Instance → List Bool → ℕ → Option Held
+kept_at table instance choice port =
+    if slice_index_or choice port false && nat_lt port instance.ports
+    then option_and_then (λ c. held_at table c.net) (slice_get instance.cells port)
+    else None
+
+-- at each of the three places
+abbrev pub kept : Table → Instance → List Bool → List (Option Held)
+kept table instance choice =
+    kept_at table instance choice 0 ∷ kept_at table instance choice 1 ∷ kept_at table instance choice 2 ∷ []
+
+abbrev pub words_of : List (Option Held) → List (Option ℕ)
+words_of held = map (option_map value_of) held
+
+-- the component with what the words follow from, and nothing more
+pub record IsSupport (place : ℕ) (held : List (Option Held)) (E : Set Place) : Type 0 where
+  pub component : IsTrue (E (AtPart place))
+  pub antecedents : (port : ℕ) (h : Held) → slice_get held port ≡ Some (Some h) → members h.from ⊆ E
+  pub only : (k : Place) → IsTrue (E k) → (k ≡ AtPart place) ⊎ ((port : ℕ) × (h : Held) × (slice_get held port ≡ Some (Some h)) × IsTrue (members h.from k))
+
+-- the known words do not refute the instance, and what they force is held
+pub record IsSettledAt (table : Table) (instance : Instance) (known : List (Option ℕ)) : Type 0 where
+  pub fine : Refutes instance.prim instance.widths known → ⊥
+  pub forced : (port v : ℕ) (c : Cell) → slice_get instance.cells port ≡ Some c → Forces instance.prim instance.widths known port v → IsIn table (fact c v)
+
+-- so for all known words that the table has
+abbrev pub IsSettledFor : Table → Instance → Type 0
+IsSettledFor table instance = (known : List (Option ℕ)) → AreHeld (IsIn table) instance.cells known → IsSettledAt table instance known
+
+-- so for all instances of the components
+abbrev pub IsSettled : Setup → Table → Type 0
+IsSettled s table = (place : ℕ) (c : Component) → slice_get s.parts place ≡ Some c → (instance : Instance) → Contains c.part instance → IsSettledFor table instance
+
+-- words stay, and one place fewer is empty
+pub record Grows (old new : Table) : Type 0 where
+  pub keeps : (net w : ℕ) → word_at old net ≡ Some w → word_at new net ≡ Some w
+  pub fewer : count_by is_none new < count_by is_none old
+
+-- the instance is one of the component at the place, at cells of the present's one cycle
+pub record IsInstanceAt (s : Setup) (place : ℕ) (instance : Instance) : Type 0 where
+  pub part : List Instance
+  pub assumed : stock s (AtPart place) ≡ Some (Part part)
+  pub of_part : Contains part instance
+  pub lawful : IsLawful instance
+  pub three : length instance.cells ≡ 3
+  pub widths : length instance.widths ≡ 3
+  pub at_nets : (port : ℕ) (c : Cell) → slice_get instance.cells port ≡ Some c → (c.cycle ≡ 0) × (c.net < length s.nets)
+  pub of_width : (port w : ℕ) (c : Cell) → slice_get instance.cells port ≡ Some c → slice_get instance.widths port ≡ Some w → w ≡ width_of s c.net
+
+-- What a word at a net does: it was there, it is put in, or another one was there.
+abbrev pub Puts : ℕ → Held → Table → Table → Step → Type 0
+Puts net h old new Quiet = (new ≡ old) × (word_at old net ≡ Some h.value)
+Puts net h old new Grew = (held_at old net ≡ None) × (new ≡ slice_set old net (Some h))
+Puts net h old new Clash = (w : ℕ) × (word_at old net ≡ Some w) × (w ≢ h.value)
+
+-- What a step comes to: the table as it was, and settled; one word more, all of them sound; or a clash of everything.
+abbrev pub Tells : Setup → Type 0 → Table → Table → Step → Type 0
+Tells s Settled old new Quiet = (new ≡ old) × Settled
+Tells s Settled old new Grew = IsSound s new × Grows old new
+Tells s Settled old new Clash = IsRefutedBy (stock s) (everything s)

@@ -1,0 +1,19 @@
+-- What is made of sets.
+use Rattle.std.specs.Prelude.{◌≡◌, ◌⊎◌, IsTrue}
+use Rattle.environment_sets.specs.Sets.{Set, ◌⊆◌}
+
+module _ {N : Type 0} where
+  abbrev pub IsEmpty : Set N → Type 0
+  IsEmpty E = (k : N) → IsTrue (E k) → ⊥
+
+  -- F is E with the name
+  pub record IsWith (E : Set N) (name : N) (F : Set N) : Type 0 where
+    pub more : E ⊆ F
+    pub has : IsTrue (F name)
+    pub only : (k : N) → IsTrue (F k) → IsTrue (E k) ⊎ (k ≡ name)
+
+  -- G has what E or F has
+  pub record IsUnion (E F G : Set N) : Type 0 where
+    pub left : E ⊆ G
+    pub right : F ⊆ G
+    pub only : (k : N) → IsTrue (G k) → IsTrue (E k) ⊎ IsTrue (F k)

@@ -1,0 +1,11 @@
+// What follows from a present as a whole, and from which of its assumptions.
+#![tactic(auto)]
+
+mod closing;
+mod environment;
+mod finding;
+mod flags;
+mod table;
+
+pub use environment::Environment;
+pub use finding::Finding;
