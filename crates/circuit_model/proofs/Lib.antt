@@ -3,3 +3,4 @@ pub mod Rounds
 pub mod Paddings
 pub mod Presents
 pub mod Readings
+pub mod Cycles

@@ -27,8 +27,8 @@ are_widths _ widths = are_equal widths
 
 -- the kind's value, if it has one, fits the width of its last port
 abbrev pub fits_value : Kind → List ℕ → Bool
-fits_value (Const value) widths = nat_lt value (2 ^ slice_index widths 2)
-fits_value (Reg reset) widths = nat_lt reset (2 ^ slice_index widths 2)
+fits_value (Const value) widths = nat_lt value (2 ^ slice_index widths 0)
+fits_value (Reg reset) widths = nat_lt reset (2 ^ slice_index widths 1)
 fits_value _ widths = true
 
 abbrev pub cell_at : ℕ → ℕ → Cell

@@ -1,6 +1,7 @@
 // What a circuit is, and what follows from assumptions about it.
 #![tactic(auto)]
 
+mod instances;
 mod laws;
 pub mod limits;
 mod model;
@@ -8,6 +9,7 @@ mod name;
 mod present;
 mod rules;
 
+pub use instances::instances_of;
 pub use laws::{
     fewer_assumptions_close_less, forced_facts_follow, part_of_a_consistent_environment,
 };

@@ -1,8 +1,9 @@
 // Words, cells, facts and assumptions.
 
-ghost use Rattle.std.specs.Prelude.{◌≡◌, ◌<◌, length, slice_get, Some};
-ghost use Rattle.circuit_model.specs.Lawful.{IsLawful};
+ghost use Rattle.std.specs.Prelude.{◌≡◌, ◌<◌, length, slice_get, Some, IfOk};
+ghost use Rattle.circuit_model.specs.Lawful.{IsLawful, AreLawful};
 
+use std::alloc::{AllocError, Global};
 use std::marker::Model;
 use word_domain::Width;
 
@@ -82,12 +83,30 @@ impl Model for Part {
 }
 
 impl Part {
+    // The part of these instances.
+    pub(crate) fn of(instances: Vec<Instance>) -> Part
+        requires { AreLawful instances.items }
+        ensures { result ≡ instances.items }
+    {
+        Part { instances }
+    }
+
+    /// The number of instances.
     pub fn len(&self) -> usize
         ensures { result ≡ length self.now }
     {
         self.instances.len()
     }
 
+    /// A part with the same instances.
+    pub fn copy(&self, alloc: Global) -> Result<Part, AllocError>
+        ensures { IfOk result (λ p. p ≡ self.now) }
+    {
+        let instances = Vec::from_slice(alloc, &self.instances)?;
+        Ok(Part { instances })
+    }
+
+    /// An instance by its place, with what each instance of a part keeps.
     pub fn at(&self, place: usize) -> &Instance
         requires { place < length self.now }
         ensures instance { slice_get self.now place ≡ Some result.now }
