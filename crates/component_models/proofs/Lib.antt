@@ -2,3 +2,12 @@ pub mod Ports
 pub mod Functions
 pub mod Latin
 pub mod Adding
+pub mod Pairs
+pub mod Complements
+pub mod Bitwise
+pub mod Parity
+pub mod Conjunction
+pub mod Turned
+pub mod Fitting
+pub mod Constants
+pub mod Asked

@@ -1,5 +1,5 @@
 -- The words that are forced at each port, by cases on the known ones.
-use Rattle.std.specs.Prelude.{ℕ, ◌+◌, ◌-◌, ◌%◌, ◌^◌, List, [], ◌∷◌, Option, Some, None}
+use Rattle.std.specs.Prelude.{ℕ, ◌+◌, ◌-◌, ◌%◌, ◌^◌, List, [], ◌∷◌, Option, Some, None, Bool, false, not, ◌==◌, bit_and, if◌then◌else◌}
 
 -- any two words force the third: third a b, or the other of a where z is the third
 abbrev pub forced_by_two : (ℕ → ℕ → ℕ) → (ℕ → ℕ → ℕ) → Option ℕ → Option ℕ → Option ℕ → List (Option ℕ)
@@ -14,3 +14,19 @@ sum_of w a b = (a + b) % 2 ^ w
 
 abbrev pub difference_of : ℕ → ℕ → ℕ → ℕ
 difference_of w z a = (z + (2 ^ w - a)) % 2 ^ w
+
+-- by the conjunction, where m is the greatest word
+abbrev pub forced_by_and : ℕ → Option ℕ → Option ℕ → Option ℕ → List (Option ℕ)
+forced_by_and m (Some a) (Some b) None = None ∷ None ∷ Some (bit_and a b) ∷ []
+forced_by_and m (Some a) None (Some z) = None ∷ (if a == m then Some z else None) ∷ None ∷ []
+forced_by_and m None (Some b) (Some z) = (if b == m then Some z else None) ∷ None ∷ None ∷ []
+forced_by_and m (Some a) None None = None ∷ None ∷ (if a == 0 then Some 0 else None) ∷ []
+forced_by_and m None (Some b) None = None ∷ None ∷ (if b == 0 then Some 0 else None) ∷ []
+forced_by_and m None None (Some z) = (if z == m then Some m else None) ∷ (if z == m then Some m else None) ∷ None ∷ []
+forced_by_and m _ _ _ = None ∷ None ∷ None ∷ []
+
+-- a conjunction has no bit that one of its words lacks
+abbrev pub refuted_by_and : Option ℕ → Option ℕ → Option ℕ → Bool
+refuted_by_and (Some a) None (Some z) = not (bit_and a z == z)
+refuted_by_and None (Some b) (Some z) = not (bit_and b z == z)
+refuted_by_and _ _ _ = false

@@ -1,11 +1,12 @@
 // One inference, for every primitive.
 
-ghost use Rattle.std.specs.Prelude.{◌≡◌};
-ghost use Rattle.circuit_model.specs.declared.model.Primitive.TheVariants.{Add};
+ghost use Rattle.std.specs.Prelude.{◌≡◌, length};
 ghost use Rattle.circuit_model.specs.Inference.{IsInference, IsOfPorts};
 ghost use Rattle.circuit_model.specs.Lawful.{AreLawfulWidths};
-ghost use Rattle.component_models.specs.Asking.{WordsFit, HasOpenPort};
+ghost use Rattle.component_models.specs.Asking.{WordsFit, HasOpenPort, IsBuilt};
 
+use crate::copies::{infer_buf, infer_const, infer_not};
+use crate::gates::{infer_and, infer_nand, infer_nor, infer_or, infer_xnor, infer_xor};
 use crate::sums::infer_sum;
 use circuit_model::Prim;
 use word_domain::Width;
@@ -15,6 +16,7 @@ use word_domain::Width;
 pub struct Inference {
     pub refuted: bool,
     pub forced: [Option<u64>; 3],
+    pub ghost places: { length forced ≡ 3 },
 }
 
 /// What the words known at some ports of a primitive say: that no tuple of its relation has them,
@@ -26,10 +28,23 @@ pub fn infer(prim: Prim, widths: [Width; 3], known: [Option<u64>; 3]) -> Inferen
     requires words { WordsFit widths known }
     requires ports { IsOfPorts prim known }
     requires open_port { HasOpenPort prim known }
-    requires built { prim ≡ Add }
-    ensures { IsInference prim widths known result.refuted result.forced }
+    requires built { IsBuilt prim }
+    ensures exact { IsInference prim widths known result.refuted result.forced }
+    ensures fit { WordsFit widths result.forced }
 {
     let [width, _, _] = widths;
     let [a, b, z] = known;
-    infer_sum(width, a, b, z)
+    match prim {
+        Prim::Buf => infer_buf(width, a, b),
+        Prim::Not => infer_not(width, a, b),
+        Prim::And => infer_and(width, a, b, z),
+        Prim::Or => infer_or(width, a, b, z),
+        Prim::Xor => infer_xor(width, a, b, z),
+        Prim::Nand => infer_nand(width, a, b, z),
+        Prim::Nor => infer_nor(width, a, b, z),
+        Prim::Xnor => infer_xnor(width, a, b, z),
+        Prim::Add => infer_sum(width, a, b, z),
+        Prim::Mul => unreachable!(),
+        Prim::Const { value } => infer_const(value),
+    }
 }

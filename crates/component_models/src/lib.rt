@@ -1,6 +1,8 @@
 // What known words say about the others.
 #![tactic(auto)]
 
+mod copies;
+mod gates;
 mod inference;
 mod sums;
 

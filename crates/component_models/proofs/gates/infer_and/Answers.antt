@@ -1,0 +1,12 @@
+use Rattle.component_models.proofs.Conjunction.{and_is_exact}
+use Rattle.component_models.proofs.Fitting.{forced_words_fit}
+use Rattle.component_models.proofs.gates.infer_and.Goals as goal
+
+exact : goal.returns-clause-exact
+exact c = rw (c.refuted_by_and.ensures, c.forced_by_and.ensures.forced) (and_is_exact c.args.width c.forced_by_and.ensures.low c.args.a c.args.b c.args.z c.requires.a_fits c.requires.b_fits c.requires.z_fits c.requires.open_port)
+
+pub returns-clause-exact : goal.returns-clause-exact
+returns-clause-exact c = exact c
+
+pub returns-clause-fit : goal.returns-clause-fit
+returns-clause-fit c = forced_words_fit _ _ _ _ _ (exact c)
