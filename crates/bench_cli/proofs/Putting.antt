@@ -1,8 +1,9 @@
 -- Text that is put in parts.
-use Rattle.std.proofs.Common.{◌≡◌, ◌≤◌, ℕ, ◌+◌, ◌-◌, ◌<◌, take_all, Bool, true, false, List, [], ◌∷◌, ◌++◌, Option, refl, sym, ◌∙◌, ap, subst, append_assoc, arith, length, take, drop, get_or, suc, add-one, drop-cons, codes}
+use Rattle.std.proofs.Common.{◌≡◌, ◌≤◌, ℕ, ◌+◌, ◌-◌, ◌<◌, take_all, Bool, true, false, List, [], ◌∷◌, ◌++◌, Option, Ok, Err, refl, sym, ◌∙◌, ap, subst, append_assoc, arith, length, take, drop, get_or, suc, add-one, drop-cons, codes}
 use Rattle.std.specs.Io.KnownBytes.{Appends}
 use Rattle.bench_io.proofs.Bytes.{Appends-then, Rose-later, Rose-then, Appends-nothing}
 use Rattle.bench_io.specs.Causes.{Rose}
+use Rattle.bench_io.specs.Writing.{Writes}
 use Rattle.bench_cli.specs.Puts.{Puts, PutsBy}
 
 -- one part after another
@@ -30,3 +31,13 @@ Puts-nothing x a k = record { by_case = by_case-nothing x a k }
 
 pub Puts-as : {x y : Bool} {a b : Option (List ℕ)} {k l : ℕ} {t u : List ℕ} → t ≡ u → Puts x y a b k l t → Puts x y a b k l u
 Puts-as {x} {y} {a} {b} {k} {l} e p = let P : List ℕ → Type 0 = λ v. Puts x y a b k l v in subst P e p
+
+-- at a failure a front of the text was written
+pub Writes-failed : {T E : Type 0} {x : Bool} {a b : Option (List ℕ)} {k l : ℕ} {t : List ℕ} {e : E} → x ≡ true → Puts false x a b k l t → Writes {T = T} a b k l (Err e) t
+Writes-failed {x = true} h p = let q = p.by_case in record { whole = tt; front = q.0; later = q.1; failed = q.2 }
+Writes-failed {x = false} h p = cc
+
+-- with no failure the whole text was
+pub Writes-done : {T E : Type 0} {x : Bool} {a b : Option (List ℕ)} {k l : ℕ} {t : List ℕ} {u : T} → x ≡ false → Puts false x a b k l t → Writes {E = E} a b k l (Ok u) t
+Writes-done {x = true} h p = cc
+Writes-done {x = false} h p = let q = p.by_case in record { whole = q.0; front = tt; later = q.1; failed = tt }

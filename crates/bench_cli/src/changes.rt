@@ -9,9 +9,8 @@ ghost use Rattle.bench_cli.specs.declared.requests.Change.TheVariants as change;
 
 use crate::replies::{Answer, Refusal};
 use crate::requests::Change;
-use circuit_model::limits;
 use circuit_model::{
-    Cell, Component, Fact, Kind, Name, Named, Present, are_widths, fits_value, instances_of,
+    Cell, Component, Fact, Kind, Name, Named, Present, are_widths, fits_value, instances_of, limits,
 };
 use std::alloc::Global;
 use word_domain::Width;
@@ -157,9 +156,7 @@ fn widths_at(present: &Present, places: &[u16; 3]) -> [Width; 3]
 fn is_part_barred(present: &Present, kind: Kind, widths: &[Width; 3]) -> bool
     ensures { result ≡ some_applies (not (are_widths kind widths.now) ∷ not (fits_value kind widths.now) ∷ nat_le MOST_PARTS (length present.now.parts) ∷ []) }
 {
-    !are_widths(kind, widths)
-        || !fits_value(kind, widths)
-        || present.parts() >= limits::MOST_PARTS
+    !are_widths(kind, widths) || !fits_value(kind, widths) || present.parts() >= limits::MOST_PARTS
 }
 
 // The component of the kind at nets that are there, with widths by the kind's rule.

@@ -13,7 +13,6 @@ mod reading;
 mod replies;
 mod requests;
 mod session;
-
 mod state;
 #[cfg(test)]
 mod tests;

@@ -102,11 +102,7 @@ fn write_finding<K: Sink>(
 }
 
 /// Writes the reply. At `Err` a front of it was written.
-pub fn write_answer<K: Sink>(
-    present: &Present,
-    answer: &Answer,
-    sink: &mut K,
-) -> Result<(), Failed>
+pub fn write_answer<K: Sink>(present: &Present, answer: &Answer, sink: &mut K) -> Result<(), Failed>
     requires { IsWritable present.now answer.now }
     ensures { Writes (K.held sink.old) (K.held sink.new) (K.faults sink.old) (K.faults sink.new) result (text_of (reply_of present.now answer.now)) }
 {

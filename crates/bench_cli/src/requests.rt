@@ -10,7 +10,10 @@ use circuit_model::{Kind, Name};
 #[derive(Clone, Copy, PartialEq, Eq, Debug)]
 pub enum Change {
     /// A net of this name, with words of so many bits.
-    Net { name: Name, width: u64 },
+    Net {
+        name: Name,
+        width: u64,
+    },
     /// A component of this name and kind at nets of these names, in order of ports. Unused places repeat the last one.
     Add {
         name: Name,
@@ -18,7 +21,11 @@ pub enum Change {
         nets: [Name; 3],
     },
     /// A word seen at the cell of a net at a cycle.
-    Measure { net: Name, cycle: u64, value: u64 },
+    Measure {
+        net: Name,
+        cycle: u64,
+        value: u64,
+    },
 }
 
 /// A question on the present.

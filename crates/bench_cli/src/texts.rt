@@ -5,10 +5,10 @@ ghost use Rattle.bench_cli.specs.Puts.{Puts};
 ghost use Rattle.present_closure.specs.Finding.{members};
 ghost use Rattle.bench_cli.specs.Texts.{cell_text, fact_text, part_names_in, cells_in, environment_text, label_line};
 
-use present_closure::Environment;
 use bench_io::{Sink, write_all};
 use circuit_model::{Cell, Fact, Present};
 use itoa::Buffer;
+use present_closure::Environment;
 
 /// Writes the bytes, unless a write has failed before. It answers whether one has failed.
 pub fn put<K: Sink>(sink: &mut K, failed: bool, bytes: &[u8]) -> bool

@@ -29,8 +29,8 @@ pub fn fits_value(kind: Kind, widths: &[Width; 3]) -> bool
     ensures { result ≡ rules.fits_value kind widths.now }
 {
     match kind {
-        Kind::Const { value } => widths[2].fits(value),
-        Kind::Reg { reset } => widths[2].fits(reset),
+        Kind::Const { value } => widths[0].fits(value),
+        Kind::Reg { reset } => widths[1].fits(reset),
         _ => true,
     }
 }

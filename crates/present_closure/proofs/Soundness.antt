@@ -22,12 +22,7 @@ use Rattle.circuit_model.proofs.Rounds.{Follows-forced, Clashes-refuted, Clashes
 use Rattle.present_closure.specs.declared.environment.Environment.{Environment}
 use Rattle.present_closure.specs.declared.table.Held.{Held}
 use Rattle.present_closure.specs.Finding.{members}
-use Rattle.present_closure.specs.Closing.{Table, held_at, word_at, value_of, words_of, IsBacked, IsSound, IsInstanceAt, IsSupport}
-
--- each word stands in the table at its port's cell
-pub record AreKept (table : Table) (instance : Instance) (held : List (Option Held)) : Type 0 where
-  pub three : length held ≡ 3
-  pub there : (port : ℕ) (h : Held) → slice_get held port ≡ Some (Some h) → (c : Cell) × (slice_get instance.cells port ≡ Some c) × (held_at table c.net ≡ Some h)
+use Rattle.present_closure.specs.Closing.{Table, held_at, word_at, value_of, words_of, IsBacked, IsSound, IsInstanceAt, IsSupport, AreKept}
 
 -- a known word is the word of what is held there
 pub words_of_at : (held : List (Option Held)) (port v : ℕ) → slice_get (words_of held) port ≡ Some (Some v) → (h : Held) × (slice_get held port ≡ Some (Some h)) × (h.value ≡ v)

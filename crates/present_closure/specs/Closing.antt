@@ -1,6 +1,6 @@
 -- Closing a present of one cycle, word by word.
 use Rattle.std.specs.Prelude.{◌≡◌, ◌≢◌, ℕ, ◌<◌, ◌^◌, ◌⊎◌, ◌&&◌, nat_lt, Bool, false, if◌then◌else◌, IsTrue, List, [], ◌∷◌, length, map, count_by, Option, Some, None, is_none, slice_get, slice_index_or, slice_set}
-use Rattle.std.specs.List.{Contains}
+use Rattle.std.specs.List.{Contains, All}
 use Rattle.std.specs.Option.{option_map, option_and_then}
 use Rattle.environment_sets.specs.Sets.{Set, ◌⊆◌}
 use Rattle.circuit_model.specs.declared.model.Cell.{Cell}
@@ -10,12 +10,16 @@ use Rattle.circuit_model.specs.declared.model.Assumption.TheVariants.{Part}
 use Rattle.circuit_model.specs.declared.present.Component.{Component}
 use Rattle.circuit_model.specs.Closure.{fact, AreHeld}
 use Rattle.circuit_model.specs.Inference.{Forces, Refutes}
+use Rattle.circuit_model.specs.declared.model.Primitive.TheVariants.{Add}
+use Rattle.circuit_model.specs.declared.model.Kind.TheVariants as kind
 use Rattle.circuit_model.specs.Lawful.{IsLawful}
 use Rattle.circuit_model.specs.Kinds.{cell_at}
 use Rattle.circuit_model.specs.Stock.{IsEnvironment, Has, IsRefutedBy}
 use Rattle.circuit_model.specs.Diagnoses.{Place, AtPart}
+use Rattle.circuit_model.specs.Present as present
 use Rattle.circuit_model.specs.Present.{Setup, width_of}
 use Rattle.circuit_model.specs.Whole.{stock, everything}
+use Rattle.present_closure.specs.declared.environment.Environment.{Environment}
 use Rattle.present_closure.specs.declared.table.Held.{Held}
 use Rattle.present_closure.specs.declared.table.Step.{Step}
 use Rattle.present_closure.specs.declared.table.Step.TheVariants.{Quiet, Grew, Clash}
@@ -84,9 +88,13 @@ pub record IsSettledAt (table : Table) (instance : Instance) (known : List (Opti
 abbrev pub IsSettledFor : Table → Instance → Type 0
 IsSettledFor table instance = (known : List (Option ℕ)) → AreHeld (IsIn table) instance.cells known → IsSettledAt table instance known
 
--- so for all instances of the components
+-- so for all instances of the component
+abbrev pub IsSettledPart : Table → Component → Type 0
+IsSettledPart table c = (instance : Instance) → Contains c.part instance → IsSettledFor table instance
+
+-- so for all components
 abbrev pub IsSettled : Setup → Table → Type 0
-IsSettled s table = (place : ℕ) (c : Component) → slice_get s.parts place ≡ Some c → (instance : Instance) → Contains c.part instance → IsSettledFor table instance
+IsSettled s table = (place : ℕ) (c : Component) → slice_get s.parts place ≡ Some c → IsSettledPart table c
 
 -- words stay, and one place fewer is empty
 pub record Grows (old new : Table) : Type 0 where
@@ -104,14 +112,73 @@ pub record IsInstanceAt (s : Setup) (place : ℕ) (instance : Instance) : Type 0
   pub at_nets : (port : ℕ) (c : Cell) → slice_get instance.cells port ≡ Some c → (c.cycle ≡ 0) × (c.net < length s.nets)
   pub of_width : (port w : ℕ) (c : Cell) → slice_get instance.cells port ≡ Some c → slice_get instance.widths port ≡ Some w → w ≡ width_of s c.net
 
+-- each is held at the cell of its port
+pub record AreKept (table : Table) (instance : Instance) (held : List (Option Held)) : Type 0 where
+  pub three : length held ≡ 3
+  pub there : (port : ℕ) (h : Held) → slice_get held port ≡ Some (Some h) → (c : Cell) × (slice_get instance.cells port ≡ Some c) × (held_at table c.net ≡ Some h)
+
+-- an instance at cells of the one cycle, each with a place in the table, and the words there fit
+pub record IsReady (table : Table) (instance : Instance) : Type 0 where
+  pub lawful : IsLawful instance
+  pub built : instance.prim ≡ Add
+  pub three : length instance.cells ≡ 3
+  pub in_cycle : (port : ℕ) (c : Cell) → slice_get instance.cells port ≡ Some c → c.cycle ≡ 0
+  pub in_table : (port : ℕ) (c : Cell) → slice_get instance.cells port ≡ Some c → c.net < length table
+  pub words : (port w v : ℕ) (c : Cell) → slice_get instance.cells port ≡ Some c → slice_get instance.widths port ≡ Some w → word_at table c.net ≡ Some v → v < 2 ^ w
+
 -- What a word at a net does: it was there, it is put in, or another one was there.
 abbrev pub Puts : ℕ → Held → Table → Table → Step → Type 0
 Puts net h old new Quiet = (new ≡ old) × (word_at old net ≡ Some h.value)
 Puts net h old new Grew = (held_at old net ≡ None) × (new ≡ slice_set old net (Some h))
 Puts net h old new Clash = (w : ℕ) × (word_at old net ≡ Some w) × (w ≢ h.value)
 
+-- one of the words does so at its cell
+pub record PutsOne (cells : List Cell) (words : List (Option ℕ)) (from : Environment) (old new : Table) (step : Step) : Type 0 where
+  pub port : ℕ
+  pub value : ℕ
+  pub cell : Cell
+  pub at : slice_get cells port ≡ Some cell
+  pub word : slice_get words port ≡ Some (Some value)
+  pub puts : Puts cell.net (record { value = value; from = from }) old new step
+
+-- What words at cells do: all were there, or one of them is put in, or another one was there.
+abbrev pub PutsAll : List Cell → List (Option ℕ) → Environment → Table → Table → Step → Type 0
+PutsAll cells words from old new Quiet = (new ≡ old) × ((port v : ℕ) (c : Cell) → slice_get cells port ≡ Some c → slice_get words port ≡ Some (Some v) → word_at old c.net ≡ Some v)
+PutsAll cells words from old new step = PutsOne cells words from old new step
+
+-- words of the table refute the instance
+pub record IsRefutedAt (table : Table) (instance : Instance) : Type 0 where
+  pub held : List (Option Held)
+  pub kept : AreKept table instance held
+  pub refutes : Refutes instance.prim instance.widths (words_of held)
+
+-- words of the table force a word at one of the instance's cells, and it does so there
+pub record PutsForced (place : ℕ) (instance : Instance) (old new : Table) (step : Step) : Type 0 where
+  pub held : List (Option Held)
+  pub kept : AreKept old instance held
+  pub from : Environment
+  pub support : IsSupport place held (members from)
+  pub port : ℕ
+  pub value : ℕ
+  pub cell : Cell
+  pub at : slice_get instance.cells port ≡ Some cell
+  pub forces : Forces instance.prim instance.widths (words_of held) port value
+  pub puts : Puts cell.net (record { value = value; from = from }) old new step
+
+-- What is learnt from an instance: nothing, where it is settled; a forced word; or a clash.
+abbrev pub Learns : ℕ → Instance → Type 0 → Table → Table → Step → Type 0
+Learns place instance Settled old new Quiet = (new ≡ old) × Settled
+Learns place instance Settled old new Grew = PutsForced place instance old new Grew
+Learns place instance Settled old new Clash = IsRefutedAt old instance ⊎ PutsForced place instance old new Clash
+
 -- What a step comes to: the table as it was, and settled; one word more, all of them sound; or a clash of everything.
 abbrev pub Tells : Setup → Type 0 → Table → Table → Step → Type 0
 Tells s Settled old new Quiet = (new ≡ old) × Settled
 Tells s Settled old new Grew = IsSound s new × Grows old new
 Tells s Settled old new Clash = IsRefutedBy (stock s) (everything s)
+
+-- the present has one cycle
+pub record IsClosable (s : Setup) : Type 0 where
+  pub lawful : present.IsLawful s
+  pub one_cycle : s.cycles ≡ 1
+  pub built : All (λ c. c.kind ≡ kind.Add) s.parts

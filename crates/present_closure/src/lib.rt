@@ -5,7 +5,8 @@ mod closing;
 mod environment;
 mod finding;
 mod flags;
+mod inferring;
 mod table;
 
 pub use environment::Environment;
-pub use finding::Finding;
+pub use finding::{Finding, find_value};

@@ -31,7 +31,7 @@ loop-answer-preserved g c =
     let q = c.in-Ok-step.ensures in
     let n = stepped _ _ _ _ _ _ _ _ _ _ _ _ i.read q in
     let last : Exchange = record { line = q.answer.1.line; reply = reply_of c.step.new.bench c.in-Ok-step.answer } in
-    let w = c.in_default.ensures in
+    let w = rw c.present.ensures at c.in_default.ensures in
     record {
       exchanges = i.exchanges ++ last ∷ [];
       read = n.0;
@@ -51,7 +51,7 @@ returns-in-Err-write_answer-clause-session g c =
       exchanges = i.exchanges ++ last ∷ [];
       state = c.step.new.bench;
       run = n.0.run;
-      outcome = (reads_some _ _ _ _ _ _ _ n.0, writes_part i.exchanges last _ _ _ i.written c.in-Err-write_answer.ensures.front);
+      outcome = (reads_some _ _ _ _ _ _ _ n.0, writes_part i.exchanges last _ _ _ i.written (rw c.present.ensures at c.in-Err-write_answer.ensures.front));
     }
 
 pub returns-in-Err-step-clause-session : goal.returns-in-Err-step-clause-session

@@ -13,10 +13,10 @@ loop-place-init g c = PutsPieces-none _ _ _
 pub loop-place-preserved : goal.loop-place-preserved
 loop-place-preserved g c = elim c.if-has_cell.branch [
   | then-has_cell w ↦ rw (w.failed-is, w.sink-is, w.is_first-is)
-    (PutsPieces-as (cells-chosen c.args.present.now (members c.args.from.now) c.args.present.now.readings c.loop-place.place c.reading.result c.reading.ensures (sym c.has_cell.ensures ∙ w.if-has_cell.true))
-    (PutsPieces-push (cell_text c.args.present.now c.reading.result.cell) c.loop-place.invariant w.put_next_cell-failed.ensures))
+      (PutsPieces-as (cells-chosen c.args.present.now (members c.args.from.now) c.args.present.now.readings c.loop-place.place c.reading.result c.reading.ensures (sym c.has_cell.ensures ∙ w.if-has_cell.true))
+      (PutsPieces-push (cell_text c.args.present.now c.reading.result.cell) c.loop-place.invariant w.put_next_cell-failed.ensures))
   | else-has_cell w ↦ rw (w.failed-is, w.sink-is, w.is_first-is)
-    (PutsPieces-as (cells-left c.args.present.now (members c.args.from.now) c.args.present.now.readings c.loop-place.place c.reading.result c.reading.ensures (sym c.has_cell.ensures ∙ w.if-has_cell.false)) c.loop-place.invariant)
+      (PutsPieces-as (cells-left c.args.present.now (members c.args.from.now) c.args.present.now.readings c.loop-place.place c.reading.result c.reading.ensures (sym c.has_cell.ensures ∙ w.if-has_cell.false)) c.loop-place.invariant)
 ]
 
 pub returns : goal.returns

@@ -13,10 +13,10 @@ loop-place-init g c = PutsPieces-none _ _ _
 pub loop-place-preserved : goal.loop-place-preserved
 loop-place-preserved g c = elim c.if-has_part.branch [
   | then-has_part w ↦ rw (w.failed-is, w.sink-is, w.is_first-is)
-    (PutsPieces-as (part_names-chosen (members c.args.from.now) c.args.present.now.parts c.loop-place.place c.part_at-part.result.now c.part_at-part.ensures (sym c.has_part.ensures ∙ w.if-has_part.true))
-    (PutsPieces-push c.part_at-part.result.now.name c.loop-place.invariant (rw (← w.bytes.ensures.bytes) w.put_piece-failed.ensures)))
+      (PutsPieces-as (part_names-chosen (members c.args.from.now) c.args.present.now.parts c.loop-place.place c.part_at-part.result.now c.part_at-part.ensures (sym c.has_part.ensures ∙ w.if-has_part.true))
+      (PutsPieces-push c.part_at-part.result.now.name c.loop-place.invariant (rw (← w.bytes.ensures.bytes) w.put_piece-failed.ensures)))
   | else-has_part w ↦ rw (w.failed-is, w.sink-is, w.is_first-is)
-    (PutsPieces-as (part_names-left (members c.args.from.now) c.args.present.now.parts c.loop-place.place c.part_at-part.result.now c.part_at-part.ensures (sym c.has_part.ensures ∙ w.if-has_part.false)) c.loop-place.invariant)
+      (PutsPieces-as (part_names-left (members c.args.from.now) c.args.present.now.parts c.loop-place.place c.part_at-part.result.now c.part_at-part.ensures (sym c.has_part.ensures ∙ w.if-has_part.false)) c.loop-place.invariant)
 ]
 
 pub returns : goal.returns

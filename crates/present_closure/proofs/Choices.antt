@@ -1,0 +1,100 @@
+-- What words at some ports of an instance say.
+use Rattle.std.proofs.Common.{◌≡◌, ℕ, zero, suc, ◌+◌, ◌<◌, ◌^◌, ◌⊎◌, inl, inr, Bool, true, false, IsTrue, ◌&&◌, nat_lt, if◌then◌else◌, List, [], ◌∷◌, length, Option, Some, None, ◌↔◌, slice_get, slice_index_or, true≢false, refl, sym, ap, subst, ◌∙◌, arith}
+use Rattle.std.specs.Option.{option_and_then}
+use Rattle.circuit_model.specs.declared.model.Cell.{Cell}
+use Rattle.circuit_model.specs.declared.model.Instance.{Instance}
+use Rattle.circuit_model.specs.declared.model.Primitive.{Primitive}
+use Rattle.circuit_model.specs.declared.model.Primitive.TheVariants.{Buf, Not, And, Or, Xor, Nand, Nor, Xnor, Add, Mul, Const}
+use Rattle.circuit_model.specs.Closure.{fact}
+use Rattle.circuit_model.specs.Inference.{ports_of, Relates, IsUnknownAt, Forces, Refutes, IsInference}
+use Rattle.std.proofs.lemmas.Option.{slice_get_within}
+use Rattle.present_closure.specs.declared.environment.Environment.{Environment}
+use Rattle.present_closure.specs.declared.table.Held.{Held}
+use Rattle.present_closure.specs.declared.table.Step.{Step}
+use Rattle.present_closure.specs.declared.table.Step.TheVariants.{Quiet, Grew, Clash}
+use Rattle.present_closure.specs.Finding.{members}
+use Rattle.present_closure.specs.Closing.{Table, held_at, word_at, kept_at, kept, words_of, AreKept, IsReady, IsIn, IsSupport, IsSettledAt, IsRefutedAt, PutsAll, PutsForced, Learns}
+
+-- a tuple of a relation has a word for each port
+Relates-length : (prim : Primitive) (widths t : List ℕ) → Relates prim widths t → length t ≡ ports_of prim
+Relates-length Buf (w ∷ _) (a ∷ z ∷ []) h = refl
+Relates-length Not (w ∷ _) (a ∷ z ∷ []) h = refl
+Relates-length And (w ∷ _) (a ∷ b ∷ z ∷ []) h = refl
+Relates-length Or (w ∷ _) (a ∷ b ∷ z ∷ []) h = refl
+Relates-length Xor (w ∷ _) (a ∷ b ∷ z ∷ []) h = refl
+Relates-length Nand (w ∷ _) (a ∷ b ∷ z ∷ []) h = refl
+Relates-length Nor (w ∷ _) (a ∷ b ∷ z ∷ []) h = refl
+Relates-length Xnor (w ∷ _) (a ∷ b ∷ z ∷ []) h = refl
+Relates-length Add (w ∷ _) (a ∷ b ∷ z ∷ []) h = refl
+Relates-length Mul (w ∷ _) (a ∷ b ∷ z ∷ []) h = refl
+Relates-length (Const value) (w ∷ _) (z ∷ []) h = refl
+Relates-length _ _ _ h = absurd h
+
+-- a word is forced at a port
+pub Forces-port : (prim : Primitive) (widths : List ℕ) (known : List (Option ℕ)) (port v : ℕ) → Forces prim widths known port v → port < ports_of prim
+Forces-port prim widths known port v h =
+    let t : List ℕ = h.some_tuple.0 in
+    let there : slice_get t port ≡ Some v = h.every_tuple t h.some_tuple.1 h.some_tuple.2 in
+    let inside : port < length t = slice_get_within t port v there in
+    rw (← Relates-length prim widths t h.some_tuple.1.relates) inside
+
+-- where words are known at all ports, nothing is left to say
+pub settled_with_no_open_port : (table : Table) (instance : Instance) (known : List (Option ℕ)) → instance.ports ≡ ports_of instance.prim → ((port : ℕ) × (port < instance.ports) × IsUnknownAt known port → ⊥) → IsSettledAt table instance known
+settled_with_no_open_port table instance known ports all = record {
+  fine = λ r. all (r.open_port.0, rw ports r.open_port.1, r.open_port.2);
+  forced = λ port v c e f. absurd (all (port, rw ports (Forces-port instance.prim instance.widths known port v f), f.unknown));
+}
+
+kept_at-there : (table : Table) (instance : Instance) (choice : List Bool) (port : ℕ) (h : Held) → kept_at table instance choice port ≡ Some h → (c : Cell) × (slice_get instance.cells port ≡ Some c) × (held_at table c.net ≡ Some h)
+kept_at-there table instance choice port h = by_test (slice_index_or choice port false && nat_lt port instance.ports) (slice_get instance.cells port) refl where
+  by_test : (b : Bool) (o : Option Cell) → slice_get instance.cells port ≡ o → (if b then option_and_then (λ c. held_at table c.net) o else None) ≡ Some h → (c : Cell) × (slice_get instance.cells port ≡ Some c) × (held_at table c.net ≡ Some h)
+  by_test true (Some c) is e = (c, is, e)
+  by_test true None is e = cc
+  by_test false o is e = cc
+
+pub AreKept-kept : (table : Table) (instance : Instance) (choice : List Bool) → AreKept table instance (kept table instance choice)
+AreKept-kept table instance choice = record { three = refl; there = there } where
+  there : (port : ℕ) (h : Held) → slice_get (kept table instance choice) port ≡ Some (Some h) → (c : Cell) × (slice_get instance.cells port ≡ Some c) × (held_at table c.net ≡ Some h)
+  there zero h e = kept_at-there table instance choice 0 h cc
+  there (suc zero) h e = kept_at-there table instance choice 1 h cc
+  there (suc (suc zero)) h e = kept_at-there table instance choice 2 h cc
+  there (suc (suc (suc port))) h e = cc
+
+module _ (old new : Table) (instance : Instance) (ready : IsReady old instance) (choice : List Bool) where
+  abbrev known : List (Option ℕ)
+  known = words_of (kept old instance choice)
+
+  module _ (refuted : Bool) (forced : List (Option ℕ)) (inference : IsInference instance.prim instance.widths known refuted forced) where
+    pub refuted_at : IsTrue refuted → IsRefutedAt old instance
+    refuted_at is = record { held = kept old instance choice; kept = AreKept-kept old instance choice; refutes = inference.refutes_exactly.0 is }
+
+    -- what becomes of the forced words is what is learnt from the instance
+    pub forced_learns : (place : ℕ) (from : Environment) (step : Step) → IsSupport place (kept old instance choice) (members from) → refuted ≡ false → PutsAll instance.cells forced from old new step → Learns place instance (IsSettledAt old instance known) old new step
+    forced_learns place from Quiet support fine puts = (puts.0, record {
+      fine = λ r. true≢false (sym (inference.refutes_exactly.1 r) ∙ fine);
+      forced = λ port v c e f. record { cycle = ready.in_cycle port c e; word = puts.1 port v c e ((inference.forces_exactly port v).1 f) };
+    })
+    forced_learns place from Grew support fine puts = record {
+      held = kept old instance choice;
+      kept = AreKept-kept old instance choice;
+      from = from;
+      support = support;
+      port = puts.port;
+      value = puts.value;
+      cell = puts.cell;
+      at = puts.at;
+      forces = (inference.forces_exactly puts.port puts.value).0 puts.word;
+      puts = puts.puts;
+    }
+    forced_learns place from Clash support fine puts = inr (record {
+      held = kept old instance choice;
+      kept = AreKept-kept old instance choice;
+      from = from;
+      support = support;
+      port = puts.port;
+      value = puts.value;
+      cell = puts.cell;
+      at = puts.at;
+      forces = (inference.forces_exactly puts.port puts.value).0 puts.word;
+      puts = puts.puts;
+    })
