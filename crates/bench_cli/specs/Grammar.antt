@@ -47,9 +47,6 @@ HasNoReply line = IsReadable line × IsSilent (words_of line)
 abbrev pub IsDigit : ℕ → Type 0
 IsDigit b = (48 ≤ b) × (b ≤ 57)
 
-abbrev pub IsLetter : ℕ → Type 0
-IsLetter b = ((65 ≤ b) × (b ≤ 90)) ⊎ ((97 ≤ b) × (b ≤ 122))
-
 -- the number that the digits stand for, after those that stand for `before`
 abbrev pub number_after : ℕ → List ℕ → ℕ
 number_after before [] = before
@@ -61,15 +58,3 @@ pub record IsNumber (word : List ℕ) (n : ℕ) : Type 0 where
   pub some : 0 < length word
   pub most : length word ≤ 10
   pub value : n ≡ number_after 0 word
-
--- a letter or `_`
-abbrev pub BeginsName : ℕ → Type 0
-BeginsName b = IsLetter b ⊎ (b ≡ 95)
-
-abbrev pub ContinuesName : ℕ → Type 0
-ContinuesName b = BeginsName b ⊎ IsDigit b
-
--- a name, of 1 to 32 bytes: a letter or `_`, and then letters, digits and `_`
-abbrev pub IsName : List ℕ → Type 0
-IsName [] = ⊥
-IsName (first ∷ others) = BeginsName first × All ContinuesName others × (length (first ∷ others) ≤ 32)

@@ -1,11 +1,8 @@
 // How lines are read, without memory.
 ghost use Rattle.std.specs.Prelude.{◌≡◌, ◌≤◌, ◌<◌, ◌↔◌, ℕ, [], IsTrue, MatchOption};
 ghost use Rattle.std.specs.List.{All};
-ghost use Rattle.bench_cli.specs.Grammar.{words_of, is_blank, IsPrintable, IsSilent, IsNumber, IsName, IsDigit, BeginsName, ContinuesName};
+ghost use Rattle.bench_cli.specs.Grammar.{words_of, is_blank, IsPrintable, IsSilent, IsNumber, IsDigit};
 ghost use Rattle.bench_cli.specs.Reading.{SkipsBlanks, EndsWord, FindsWord};
-
-/// The most bytes of a name.
-const LONGEST_NAME: usize = 32;
 
 /// The most digits of a number.
 const MOST_DIGITS: usize = 10;
@@ -96,30 +93,4 @@ pub fn read_number(word: &[u8]) -> Option<u64>
         number = 10 * number + (*b - b'0') as u64;
     }
     Some(number)
-}
-
-fn begins_name(b: u8) -> bool
-    ensures { IsTrue result ↔ BeginsName b }
-{
-    b.is_ascii_alphabetic() || b == b'_'
-}
-
-fn continues_name(b: u8) -> bool
-    ensures { IsTrue result ↔ ContinuesName b }
-{
-    begins_name(b) || is_digit(b)
-}
-
-/// Whether the word is a name.
-pub fn is_name(word: &[u8]) -> bool
-    ensures { IsTrue result ↔ IsName word.now }
-{
-    match word {
-        [] => false,
-        [first, others @ ..] => {
-            word.len() <= LONGEST_NAME
-                && begins_name(*first)
-                && others.iter().all(|b| continues_name(*b))
-        }
-    }
 }

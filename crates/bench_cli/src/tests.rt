@@ -1,7 +1,7 @@
 // Whole sessions over memory, with calls that fail.
 ghost use Rattle.std.specs.Prelude.{◌<◌};
 
-use crate::reading::{is_name, next_word, read_number};
+use crate::reading::{next_word, read_number};
 use crate::{Status, gde};
 use bench_io::{MemorySink, MemorySource};
 use std::alloc::Global;
@@ -14,29 +14,37 @@ const NOT_BUILT: &[u8] = b"no 50 not built\n";
 const NEVER: u64 = 0;
 
 // The lines of a session, and their replies. The last line has no newline.
-const SESSION: [(&[u8], &[u8]); 6] = [
-    (b"# a fresh bench", b""),
-    (b"net A 8", NOT_BUILT),
+const SESSION: [(&[u8], &[u8]); 9] = [
+    (b"net A 8", b"ok\n"),
+    (b"net B 8", b"ok\n"),
+    (b"net Z 8", b"ok\n"),
+    (b"# Z is the sum", b""),
+    (b"add S A B Z", b"ok\n"),
     (b"", b""),
-    (b" \t\r", b""),
-    (b"  # and a comment", b""),
-    (b"label A", NOT_BUILT),
+    (b"measure A 5", b"ok\n"),
+    (b"measure B 7", b"ok\n"),
+    (b"label Z", b"Z=12 {S;A,B}\nok\n"),
 ];
 
-// Its bytes, and the replies to the lines whose newline is among the first `given` of them.
-fn session(alloc: Global, given: usize) -> Result<(Vec<u8>, Vec<u8>), Fail> {
+// Its bytes, and the replies to its first lines.
+fn session(alloc: Global, lines: usize) -> Result<(Vec<u8>, Vec<u8>), Fail> {
     let mut text = Vec::new(alloc);
     let mut replies = Vec::new(alloc);
     for (i, (line, reply)) in SESSION.iter().enumerate() {
-        text.extend_from_slice(line)?;
-        if i + 1 < SESSION.len() {
+        if i != 0 {
             text.push(b'\n')?;
-            if text.len() <= given {
-                replies.extend_from_slice(reply)?;
-            }
+        }
+        text.extend_from_slice(line)?;
+        if i < lines {
+            replies.extend_from_slice(reply)?;
         }
     }
     Ok((text, replies))
+}
+
+// How many lines end among these bytes.
+fn lines_ended(bytes: &[u8]) -> usize {
+    bytes.iter().filter(|b| **b == b'\n').count()
 }
 
 // The status of a run, and what it wrote.
@@ -62,10 +70,11 @@ fn ran(
 fn reads_fail(rt: &impl Abort, alloc: Global, piece: usize) -> Result<(), Fail>
     requires { 0 < piece }
 {
-    let (text, replies) = session(alloc, usize::MAX)?;
+    let (text, replies) = session(alloc, SESSION.len())?;
     let last = text.len().div_ceil(piece) + 1;
     for read in 1..=last {
-        let (_, want) = session(alloc, (read - 1).saturating_mul(piece))?;
+        let given = (read - 1).saturating_mul(piece).min(text.len());
+        let (_, want) = session(alloc, lines_ended(&text[..given]))?;
         let (status, sink) = ran(alloc, "run", &text, piece, read as u64, NEVER)?;
         assert!(rt; status == Status::ReadFault, "piece {piece}, read {read}");
         assert!(rt;
@@ -74,9 +83,8 @@ fn reads_fail(rt: &impl Abort, alloc: Global, piece: usize) -> Result<(), Fail>
         );
     }
     let (status, sink) = ran(alloc, "run", &text, piece, last as u64 + 1, NEVER)?;
-    assert!(rt; status == Status::SomeRefused, "piece {piece}");
-    assert!(rt; sink.held().len() == 2 * NOT_BUILT.len(), "piece {piece}");
-    assert!(rt; sink.held().starts_with(&replies), "piece {piece}");
+    assert!(rt; status == Status::Done, "piece {piece}");
+    assert!(rt; sink.held() == replies.as_slice(), "piece {piece}");
     Ok(())
 }
 
@@ -87,23 +95,140 @@ fn each_read_fails_in_turn(rt: HostRuntime) -> Result<(), Fail> {
     reads_fail(&rt, rt.alloc(), 1024)
 }
 
-#[test]
-fn each_write_fails_in_turn(rt: HostRuntime) -> Result<(), Fail> {
-    let alloc = rt.alloc();
-    let (text, _) = session(alloc, usize::MAX)?;
-    let (_, whole) = ran(alloc, "run", &text, 7, NEVER, NEVER)?;
+// Lets each write fail in turn, up to the last, where the session is read in pieces of this size.
+fn writes_fail(rt: &impl Abort, alloc: Global, piece: usize) -> Result<(), Fail>
+    requires { 0 < piece }
+{
+    let (text, replies) = session(alloc, SESSION.len())?;
     let mut len = 0;
-    // Each reply is written in five pieces.
-    for write in 1..=10 {
-        let (status, sink) = ran(alloc, "run", &text, 7, NEVER, write)?;
+    for write in 1..100 {
+        let (status, sink) = ran(alloc, "run", &text, piece, NEVER, write)?;
+        if status == Status::Done {
+            // Seven lines have a reply, and each is at least one write.
+            assert!(rt; 7 < write, "there are {write} writes");
+            assert!(rt; sink.held() == replies.as_slice(), "no write fails");
+            return Ok(());
+        }
         assert!(rt; status == Status::WriteFault, "write {write}");
-        assert!(rt; whole.held().starts_with(sink.held()), "write {write}");
+        assert!(rt; replies.starts_with(sink.held()), "write {write}");
         assert!(rt; write == 1 || len < sink.held().len(), "write {write}");
         len = sink.held().len();
     }
-    let (status, sink) = ran(alloc, "run", &text, 7, NEVER, 11)?;
-    assert!(rt; status == Status::SomeRefused);
-    assert!(rt; sink.held() == whole.held());
+    assert!(rt; false, "there are more writes");
+    Ok(())
+}
+
+#[test]
+fn each_write_fails_in_turn(rt: HostRuntime) -> Result<(), Fail> {
+    writes_fail(&rt, rt.alloc(), 1)?;
+    writes_fail(&rt, rt.alloc(), 7)?;
+    writes_fail(&rt, rt.alloc(), 1024)
+}
+
+// Whole sessions and their replies. In each, A, B and Z are nets of width 8, and S adds A and B to Z.
+const ROWS: [(&[u8], &[u8]); 9] = [
+    // the sum, forwards and backwards, without the carry
+    (
+        b"measure A 255\nmeasure B 1\nlabel Z\n",
+        b"ok\nok\nZ=0 {S;A,B}\nok\n",
+    ),
+    (
+        b"measure B 1\nmeasure Z 0\nlabel A\n",
+        b"ok\nok\nA=255 {S;B,Z}\nok\n",
+    ),
+    (
+        b"measure Z 4\nmeasure A 5\nlabel B\n",
+        b"ok\nok\nB=255 {S;A,Z}\nok\n",
+    ),
+    // a measured value follows from its measurement alone
+    (
+        b"measure A 5\nmeasure B 7\nlabel B\n",
+        b"ok\nok\nB=7 {;B}\nok\n",
+    ),
+    // nothing follows from one word
+    (
+        b"measure A 5\nlabel Z\nlabel A\n",
+        b"ok\nok\nA=5 {;A}\nok\n",
+    ),
+    // all three cannot be right
+    (
+        b"measure A 5\nmeasure B 7\nmeasure Z 13\nlabel Z\nlabel A\n",
+        b"ok\nok\nok\nclash\nok\nclash\nok\n",
+    ),
+    // an adder with one net twice
+    (
+        b"add T A A Z\nmeasure A 5\nlabel Z\n",
+        b"ok\nok\nZ=10 {T;A}\nok\n",
+    ),
+    // two adders in a row
+    (
+        b"net Y 8\nadd T Z A Y\nmeasure A 200\nmeasure B 100\nlabel Y\n",
+        b"ok\nok\nok\nok\nY=244 {S,T;A,B}\nok\n",
+    ),
+    // what is refused changes nothing
+    (
+        b"measure A 256\nmeasure A 5\nmeasure A 6\nnet A 8\nnet S 8\nlabel A\n",
+        b"no 50 not built\nok\nno 50 not built\nno 50 not built\nno 50 not built\nA=5 {;A}\nok\n",
+    ),
+];
+
+#[test]
+fn rows(rt: HostRuntime) -> Result<(), Fail> {
+    let alloc = rt.alloc();
+    for (i, (lines, replies)) in ROWS.iter().enumerate() {
+        let mut text = Vec::from_slice(alloc, b"net A 8\nnet B 8\nnet Z 8\nadd S A B Z\n")?;
+        text.extend_from_slice(lines)?;
+        let mut want = Vec::from_slice(alloc, b"ok\nok\nok\nok\n")?;
+        want.extend_from_slice(replies)?;
+        let (_, sink) = ran(alloc, "run", &text, 1024, NEVER, NEVER)?;
+        assert!(rt; sink.held() == want.as_slice(), "row {i}");
+    }
+    Ok(())
+}
+
+// Lines that no check lets pass, after the first lines of `SESSION`.
+const REFUSED: [&[u8]; 21] = [
+    b"net C 0",
+    b"net C 33",
+    b"net C",
+    b"net C 8 8",
+    b"net 9C 8",
+    b"net C x",
+    b"add S A B Z",
+    b"add A A B Z",
+    b"add T A B Q",
+    b"add T A B N",
+    b"add T A B",
+    b"measure Q 1",
+    b"measure S 1",
+    b"measure A 5",
+    b"measure Z 256",
+    b"measure A@0 5",
+    b"measure A",
+    b"label Q",
+    b"label A@0",
+    b"conflicts",
+    b"frob",
+];
+
+#[test]
+fn refused_lines(rt: HostRuntime) -> Result<(), Fail> {
+    let alloc = rt.alloc();
+    for line in REFUSED {
+        let mut text = Vec::from_slice(alloc, b"net N 4\n")?;
+        let (front, replies) = session(alloc, SESSION.len())?;
+        text.extend_from_slice(&front)?;
+        text.push(b'\n')?;
+        text.extend_from_slice(line)?;
+        text.extend_from_slice(b"\nlabel Z\n")?;
+        let mut want = Vec::from_slice(alloc, b"ok\n")?;
+        want.extend_from_slice(&replies)?;
+        want.extend_from_slice(NOT_BUILT)?;
+        want.extend_from_slice(b"Z=12 {S;A,B}\nok\n")?;
+        let (status, sink) = ran(alloc, "run", &text, 1024, NEVER, NEVER)?;
+        assert!(rt; status == Status::SomeRefused, "{line:?}");
+        assert!(rt; sink.held() == want.as_slice(), "{line:?}");
+    }
     Ok(())
 }
 
@@ -169,19 +294,6 @@ fn words_of_a_line(rt: HostRuntime) {
     ];
     for (word, number) in numbers {
         assert!(rt; read_number(word) == number);
-    }
-    let long = [b'z'; 33];
-    let names: [(&[u8], bool); 7] = [
-        (b"_", true),
-        (b"aZ_09", true),
-        (b"", false),
-        (b"9a", false),
-        (b"a@1", false),
-        (&long[..32], true),
-        (&long, false),
-    ];
-    for (word, is) in names {
-        assert!(rt; is_name(word) == is);
     }
 }
 
