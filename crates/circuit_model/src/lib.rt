@@ -7,6 +7,8 @@ pub mod limits;
 mod model;
 mod name;
 mod present;
+#[cfg(test)]
+mod tests;
 
 pub use instances::instances_of;
 pub use laws::{
