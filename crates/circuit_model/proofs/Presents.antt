@@ -1,12 +1,13 @@
 -- What a further net, component or measurement keeps of a lawful present.
 use Rattle.std.proofs.Common.{◌≡◌, ℕ, suc, ◌+◌, ◌*◌, ◌^◌, ◌<◌, ◌≤◌, ◌⊎◌, inl, inr, Bool, false, cond, not, ltb, List, [], ◌∷◌, ◌++◌, length, map, Option, Some, None, IsTrue, refl, sym, ap, subst, ◌∙◌, arith}
 use Rattle.std.specs.Prelude.{slice_index}
-use Rattle.std.specs.List.{All, position, prefix_len}
+use Rattle.std.specs.List.{slice_get, All, position, prefix_len}
 use Rattle.std.specs.Str.{bytes_eq}
 use Rattle.std.proofs.lemmas.Bool.{false≢true}
 use Rattle.std.proofs.lemmas.Bool.Decides.{nat_tests}
 use Rattle.std.proofs.lemmas.Slice.Eq.{bytes_eq-Decides}
-use Rattle.std.proofs.lemmas.List.{append-nil, append_assoc, length_push, map-append, length-map, get_or_append_left}
+use Rattle.std.proofs.lemmas.List.{append-nil, append_assoc, length_push, map-append, length-map, get_or_append_left, get_or-map}
+use Rattle.std.proofs.lemmas.Option.{slice_get_within, get_or_from_slice_get}
 use Rattle.std.proofs.lemmas.List.Elements.{All-cons, All-head, All-tail, All-push, All-weaker}
 use Rattle.environment_sets.specs.Lists.{IsIn, AreDistinct}
 use Rattle.circuit_model.specs.declared.model.Fact.{Fact}
@@ -79,6 +80,13 @@ free_is_new s name free h =
       | inl a ↦ let p = IsIn-map (λ (n : Net). n.name) s.nets name a in not_named name p.0.name p.2 (position-None (λ n. bytes_eq n.name name) s.nets none.0 p.0 p.1)
       | inr b ↦ let p = IsIn-map (λ (c : Component). c.name) s.parts name b in not_named name p.0.name p.2 (position-None (λ c. bytes_eq c.name name) s.parts none.1 p.0 p.1)
     ]
+
+-- the width of a net that was read
+pub width_of-read : (s : Setup) (net : ℕ) (n : Net) → slice_get s.nets net ≡ Some n → width_of s net ≡ n.width
+width_of-read s net n h =
+    let w : Net → ℕ = λ n. n.width in
+    let fits : net < length s.nets = slice_get_within s.nets net n h in
+    get_or-map w s.nets net n 0 fits ∙ ap w (get_or_from_slice_get s.nets net n n h)
 
 module _ (n : Net) (s : Setup) where
   pub width_of-with_net : (k : ℕ) → k < length s.nets → width_of (with_net n s) k ≡ width_of s k

@@ -8,6 +8,8 @@ mod model;
 mod name;
 mod present;
 mod rules;
+#[cfg(test)]
+mod tests;
 
 pub use instances::instances_of;
 pub use laws::{
