@@ -43,7 +43,8 @@ impl Refusal {
 }
 
 fn write_refusal<K: Sink>(sink: &mut K, number: u64, words: &[u8]) -> Result<(), Failed>
-    ensures { Writes (K.held sink.old) (K.held sink.new) (K.faults sink.old) (K.faults sink.new) result (refusal_line number words.now) }
+    ensures { Writes (K.held sink.old) (K.held sink.new) (K.faults sink.old) (K.faults sink.new) result
+        (refusal_line number words.now) }
 {
     let mut buffer = Buffer::new();
     let digits = buffer.format(number).as_bytes();
@@ -52,7 +53,8 @@ fn write_refusal<K: Sink>(sink: &mut K, number: u64, words: &[u8]) -> Result<(),
 
 /// Writes the reply. At `Err` a front of it was written.
 pub fn write_answer<K: Sink>(answer: &Answer, sink: &mut K) -> Result<(), Failed>
-    ensures { Writes (K.held sink.old) (K.held sink.new) (K.faults sink.old) (K.faults sink.new) result (text_of (reply_of answer.now)) }
+    ensures { Writes (K.held sink.old) (K.held sink.new) (K.faults sink.old) (K.faults sink.new) result
+        (text_of (reply_of answer.now)) }
 {
     match answer {
         Answer::Nothing => write_all(sink, b""),

@@ -1,5 +1,6 @@
 // What a session keeps between lines, and what a line does to it.
 ghost use Rattle.std.specs.Prelude.{◌≡◌, ◌≤◌, length};
+ghost use Rattle.bench_io.specs.Lines.{LONGEST};
 ghost use Rattle.bench_cli.specs.State.{empty, Takes};
 ghost use Rattle.bench_cli.specs.Answers.{reply_of};
 
@@ -29,7 +30,7 @@ impl Bench {
 
     /// Answers a line that is not too long.
     pub fn take(&mut self, line: &[u8]) -> Answer
-        requires { length line.now ≤ 1024 }
+        requires { length line.now ≤ LONGEST }
         ensures { Takes self.old line.now (reply_of result) self.new }
     {
         if has_only_printable(line) && is_silent(line) {
