@@ -78,16 +78,23 @@ pub fn gde<S: Source, K: Sink>(
     source: &mut S,
     sink: &mut K,
 ) -> Status
-    ensures run { IsRun words.now → Session result (S.left source.old) (S.left source.new) (K.held sink.old) (K.held sink.new) }
-    ensures other_words { (IsRun words.now → ⊥) → TellsUsage result (K.held sink.old) (K.held sink.new) × (source.new ≡ source.old) }
+    ensures run { IsRun words.now →
+        Session result (S.left source.old) (S.left source.new) (K.held sink.old) (K.held sink.new) }
+    ensures other_words { (IsRun words.now → ⊥) →
+        TellsUsage result (K.held sink.old) (K.held sink.new) × (source.new ≡ source.old) }
 
     // When each status comes.
     ensures write_fault { result ≡ Status.WriteFault → Rose (K.faults sink.old) (K.faults sink.new) }
-    ensures usage { (result ≡ Status.Usage) ↔ (IsRun words.now → ⊥) × (result ≢ Status.WriteFault) }
-    ensures read_fault { result ≡ Status.ReadFault → IsRun words.now × Rose (S.faults source.old) (S.faults source.new) }
-    ensures too_much { WhereTold (S.left source.old) (S.left source.new) (λ input left. (result ≡ Status.TooMuch) ↔ TakesTooMuch input left) }
+    ensures usage { (result ≡ Status.Usage) ↔
+        (IsRun words.now → ⊥) × (result ≢ Status.WriteFault) }
+    ensures read_fault { result ≡ Status.ReadFault →
+        IsRun words.now × Rose (S.faults source.old) (S.faults source.new) }
+    ensures too_much { WhereTold (S.left source.old) (S.left source.new) (λ input left.
+        (result ≡ Status.TooMuch) ↔ TakesTooMuch input left) }
     ensures complete { IsRun words.now → IsWithin (S.left source.old)
-        → (Rose (S.faults source.old) (S.faults source.new) → ⊥) → (Rose (K.faults sink.old) (K.faults sink.new) → ⊥) → IsComplete result }
+        → (Rose (S.faults source.old) (S.faults source.new) → ⊥)
+        → (Rose (K.faults sink.old) (K.faults sink.new) → ⊥)
+        → IsComplete result }
 
     ensures source_later { S.faults source.old ≤ S.faults source.new }
     ensures sink_later { K.faults sink.old ≤ K.faults sink.new }

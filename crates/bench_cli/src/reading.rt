@@ -52,7 +52,8 @@ fn word_len(bytes: &[u8]) -> usize
 
 /// The first word, and what follows it.
 pub fn next_word(bytes: &[u8]) -> Option<(&[u8], &[u8])>
-    ensures { MatchOption result (words_of bytes.now ≡ []) (λ found. FindsWord bytes.now found.0.now found.1.now) }
+    ensures { MatchOption result (words_of bytes.now ≡ [])
+        (λ found. FindsWord bytes.now found.0.now found.1.now) }
 {
     let front = skip_blanks(bytes);
     let len = word_len(front);

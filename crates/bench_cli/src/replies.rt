@@ -55,7 +55,8 @@ impl Refusal {
 }
 
 fn write_refusal<K: Sink>(sink: &mut K, number: u64, words: &[u8]) -> Result<(), Failed>
-    ensures { Writes (K.held sink.old) (K.held sink.new) (K.faults sink.old) (K.faults sink.new) result (refusal_line number words.now) }
+    ensures { Writes (K.held sink.old) (K.held sink.new) (K.faults sink.old) (K.faults sink.new) result
+        (refusal_line number words.now) }
 {
     let mut buffer = Buffer::new();
     let digits = buffer.format(number).as_bytes();

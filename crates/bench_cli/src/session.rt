@@ -87,7 +87,8 @@ pub fn run<S: Source, K: Sink>(alloc: Global, source: &mut S, sink: &mut K) -> S
     ensures session { Session result (S.left source.old) (S.left source.new) (K.held sink.old) (K.held sink.new) }
     ensures read_fault { result ≡ Status.ReadFault → Rose (S.faults source.old) (S.faults source.new) }
     ensures write_fault { result ≡ Status.WriteFault → Rose (K.faults sink.old) (K.faults sink.new) }
-    ensures too_much { WhereTold (S.left source.old) (S.left source.new) (λ input left. (result ≡ Status.TooMuch) ↔ TakesTooMuch input left) }
+    ensures too_much { WhereTold (S.left source.old) (S.left source.new) (λ input left.
+        (result ≡ Status.TooMuch) ↔ TakesTooMuch input left) }
     ensures source_later { S.faults source.old ≤ S.faults source.new }
     ensures sink_later { K.faults sink.old ≤ K.faults sink.new }
 {

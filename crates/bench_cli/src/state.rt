@@ -1,5 +1,6 @@
 // What a session keeps between lines, and what a line does to it.
 ghost use Rattle.std.specs.Prelude.{◌≡◌, ◌≤◌, length, IfOk};
+ghost use Rattle.bench_io.specs.Lines.{LONGEST};
 ghost use Rattle.bench_cli.specs.State.{empty, Takes};
 ghost use Rattle.bench_cli.specs.Answers.{reply_of, IsWritable};
 ghost use Rattle.bench_cli.specs.Serving.{Serves, Asked};
@@ -45,7 +46,7 @@ impl Bench {
 
     /// Answers a line that is not too long.
     pub fn take(&mut self, line: &[u8]) -> Answer
-        requires { length line.now ≤ 1024 }
+        requires { length line.now ≤ LONGEST }
         ensures takes { Takes self.old line.now (reply_of self.new result) self.new }
         ensures writable { IsWritable self.new result }
     {
