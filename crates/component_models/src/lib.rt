@@ -4,6 +4,7 @@
 mod copies;
 mod gates;
 mod inference;
+mod products;
 mod sums;
 
 pub use inference::{Inference, infer};
