@@ -8,3 +8,6 @@ mod products;
 mod sums;
 
 pub use inference::{Inference, infer};
+
+#[cfg(test)]
+mod tests;
