@@ -1,7 +1,7 @@
 -- From the widths and the known words by name to the lists that hold them.
 use Rattle.std.proofs.Common.{◌≡◌, ℕ, zero, suc, ◌+◌, ◌<◌, Bool, false, List, [], ◌∷◌, length, get_or, Option, Some, None, slice_get, refl, sym, ap, subst, arith}
 use Rattle.circuit_model.specs.declared.model.Primitive.{Primitive}
-use Rattle.circuit_model.specs.declared.model.Primitive.TheVariants.{And, Const}
+use Rattle.circuit_model.specs.declared.model.Primitive.TheVariants.{And, Mul, Const}
 use Rattle.circuit_model.specs.Inference.{ports_of, IsOfPorts, IsInference}
 use Rattle.circuit_model.specs.Lawful.{AreLawfulWidths}
 use Rattle.component_models.specs.Asking.{HasOpenPort}
@@ -65,3 +65,16 @@ pub of_constant : (value : ℕ) (widths : List ℕ) → AreLawfulWidths (Const v
 of_constant value [] h known n of_ports unknown refuted forced r f = absurd h
 of_constant value (w ∷ widths) h known n of_ports unknown refuted forced r f =
     rw (one_place (Const value) refl known n of_ports (first_is_open value known unknown), r, f) (const_is_exact value w widths h)
+
+product_widths : (widths : List ℕ) (d e : ℕ) → AreLawfulWidths Mul widths → widths ≡ get_or widths 0 d ∷ get_or widths 1 e ∷ (get_or widths 0 d + get_or widths 1 e) ∷ []
+product_widths [] d e h = absurd h
+product_widths (a ∷ []) d e h = absurd h
+product_widths (a ∷ b ∷ []) d e h = absurd h
+product_widths (a ∷ b ∷ z ∷ []) d e h = ap (λ z. a ∷ b ∷ z ∷ []) h
+product_widths (a ∷ b ∷ z ∷ x ∷ widths) d e h = absurd h
+
+pub of_multiplier : (widths : List ℕ) (d e : ℕ) → AreLawfulWidths Mul widths → (known : List (Option ℕ)) → length known ≡ 3 → (refuted : Bool) (forced : List (Option ℕ)) → IsInference Mul (get_or widths 0 d ∷ get_or widths 1 e ∷ (get_or widths 0 d + get_or widths 1 e) ∷ []) (get_or known 0 None ∷ get_or known 1 None ∷ get_or known 2 None ∷ []) refuted forced → IsInference Mul widths known refuted forced
+of_multiplier widths d e lawful known three refuted forced i =
+    let C : List ℕ → Type 0 = λ ws. IsInference Mul ws known refuted forced in
+    let D : List (Option ℕ) → Type 0 = λ ks. IsInference Mul (get_or widths 0 d ∷ get_or widths 1 e ∷ (get_or widths 0 d + get_or widths 1 e) ∷ []) ks refuted forced in
+    subst C (sym (product_widths widths d e lawful)) (subst D (sym (places known three)) i)

@@ -4,12 +4,11 @@ use Rattle.std.specs.Int.{bit_at}
 use Rattle.std.proofs.lemmas.Nat.{and_le_l, and_le_r, and_comm, and_mask, or_lt, or_disjoint, and_assoc, and-not}
 use Rattle.std.specs.Int.Bits.{and_self, and_zero_l, and_zero_r}
 use Rattle.std.proofs.lemmas.Nat.Bits.{bit_at_and, bit_at_or, bit_at-lt, same_from_bits_below}
-use Rattle.std.proofs.lemmas.Option.{slice_get_within}
 use Rattle.std.proofs.lemmas.Bool.Decides.{nat_tests}
 use Rattle.circuit_model.specs.declared.model.Primitive.TheVariants.{And}
 use Rattle.circuit_model.specs.Inference.{IsTuple, Matches, IsInference}
 use Rattle.component_models.specs.Tables.{forced_by_and, refuted_by_and}
-use Rattle.component_models.proofs.Ports.{Known, Forced, Free, not_refuted, refuted}
+use Rattle.component_models.proofs.Ports.{Known, Forced, Free, not_refuted, refuted, of_three_places}
 use Rattle.component_models.proofs.Functions.{differ_at}
 use Rattle.component_models.proofs.Complements.{bit_at_complement}
 use Rattle.component_models.proofs.Bitwise.{and_function}
@@ -51,9 +50,6 @@ module _ (w a z : ℕ) (p : a < 2 ^ w) (q : z < 2 ^ w) (within : bit_and a z ≡
       let sum : bit_or z (2 ^ w - 1 - a) ≡ z + (2 ^ w - 1 - a) = or_disjoint z (2 ^ w - 1 - a) apart in
       d (omega arith)
 
-of_three : (a b z : Option ℕ) (p v : ℕ) → slice_get (a ∷ b ∷ z ∷ []) p ≡ Some (Some v) → p < 3
-of_three a b z p v e = slice_get_within (a ∷ b ∷ z ∷ []) p (Some v) e
-
 module _ (w : ℕ) where
   abbrev ws : List ℕ
   ws = w ∷ w ∷ w ∷ []
@@ -88,7 +84,7 @@ module _ (w : ℕ) where
         | false ↦ λ e. let d : bit_and a z ≢ z = grind (arith, nat_tests) in
             elim (a == top) as (λ r. (a == top) ≡ r → IsInference And ws (Some a ∷ None ∷ Some z ∷ []) true (None ∷ (if r then Some z else None) ∷ None ∷ [])) [
               | true ↦ λ full. let all : a ≡ top = grind (arith, nat_tests) in absurd (d (ap (λ k. bit_and k z) all ∙ (and_comm top z ∙ and_ones w z q)))
-              | false ↦ λ _. refuted And ws (Some a ∷ None ∷ Some z ∷ []) (record { used = tt; within = of_three _ _ _; open_port = (1, omega arith, refl); no_tuple = no_factor a z d })
+              | false ↦ λ _. refuted And ws (Some a ∷ None ∷ Some z ∷ []) (record { used = tt; within = of_three_places _ _ _; open_port = (1, omega arith, refl); no_tuple = no_factor a z d })
             ] refl
         | true ↦ λ e. let within : bit_and a z ≡ z = grind (arith, nat_tests) in
             let t0 : IsTuple And ws (a ∷ z ∷ z ∷ []) = tuple a z z p q (sym within) in
@@ -157,7 +153,7 @@ module _ (w : ℕ) where
         | false ↦ λ e. let d : bit_and b z ≢ z = grind (arith, nat_tests) in
             elim (b == top) as (λ r. (b == top) ≡ r → IsInference And ws (None ∷ Some b ∷ Some z ∷ []) true ((if r then Some z else None) ∷ None ∷ None ∷ [])) [
               | true ↦ λ full. let all : b ≡ top = grind (arith, nat_tests) in absurd (d (ap (λ k. bit_and k z) all ∙ (and_comm top z ∙ and_ones w z q)))
-              | false ↦ λ _. refuted And ws (None ∷ Some b ∷ Some z ∷ []) (record { used = tt; within = of_three _ _ _; open_port = (0, omega arith, refl); no_tuple = no_second b z d })
+              | false ↦ λ _. refuted And ws (None ∷ Some b ∷ Some z ∷ []) (record { used = tt; within = of_three_places _ _ _; open_port = (0, omega arith, refl); no_tuple = no_second b z d })
             ] refl
         | true ↦ λ e. let within : bit_and b z ≡ z = grind (arith, nat_tests) in
             let t0 : IsTuple And ws (z ∷ b ∷ z ∷ []) = tuple z b z q p (sym (and_comm z b ∙ within)) in

@@ -11,3 +11,4 @@ pub mod Turned
 pub mod Fitting
 pub mod Constants
 pub mod Asked
+pub mod Multiplying

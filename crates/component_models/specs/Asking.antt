@@ -1,7 +1,6 @@
 -- What may be asked: which words may be known, and at which ports.
 use Rattle.std.specs.Prelude.{◌≡◌, ℕ, ◌^◌, ◌<◌, List, Option, Some, slice_get}
 use Rattle.circuit_model.specs.declared.model.Primitive.{Primitive}
-use Rattle.circuit_model.specs.declared.model.Primitive.TheVariants.{Mul}
 use Rattle.circuit_model.specs.Inference.{ports_of, IsUnknownAt}
 
 -- each known word fits the width at its place
@@ -11,8 +10,3 @@ WordsFit widths known = (p w v : ℕ) → slice_get widths p ≡ Some w → slic
 -- at some port no word is known
 abbrev pub HasOpenPort : Primitive → List (Option ℕ) → Type 0
 HasOpenPort prim known = (p : ℕ) × (p < ports_of prim) × IsUnknownAt known p
-
--- the kinds that are answered
-abbrev pub IsBuilt : Primitive → Type 0
-IsBuilt Mul = ⊥
-IsBuilt _ = Unit {0}

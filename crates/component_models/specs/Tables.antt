@@ -1,5 +1,5 @@
 -- The words that are forced at each port, by cases on the known ones.
-use Rattle.std.specs.Prelude.{ℕ, ◌+◌, ◌-◌, ◌%◌, ◌^◌, List, [], ◌∷◌, Option, Some, None, Bool, false, not, ◌==◌, bit_and, if◌then◌else◌}
+use Rattle.std.specs.Prelude.{◌≡◌, ◌↔◌, IsTrue, ℕ, ◌+◌, ◌-◌, ◌*◌, ◌%◌, ◌^◌, ◌<◌, List, [], ◌∷◌, Option, Some, None, Bool, false, not, ◌==◌, bit_and, if◌then◌else◌}
 
 -- any two words force the third: third a b, or the other of a where z is the third
 abbrev pub forced_by_two : (ℕ → ℕ → ℕ) → (ℕ → ℕ → ℕ) → Option ℕ → Option ℕ → Option ℕ → List (Option ℕ)
@@ -30,3 +30,15 @@ abbrev pub refuted_by_and : Option ℕ → Option ℕ → Option ℕ → Bool
 refuted_by_and (Some a) None (Some z) = not (bit_and a z == z)
 refuted_by_and None (Some b) (Some z) = not (bit_and b z == z)
 refuted_by_and _ _ _ = false
+
+-- by the known factors
+abbrev pub product_of : Option ℕ → Option ℕ → Option ℕ
+product_of (Some a) (Some b) = Some (a * b)
+product_of (Some a) None = if a == 0 then Some 0 else None
+product_of None (Some b) = if b == 0 then Some 0 else None
+product_of None None = None
+
+-- the product with the factor is made by no word of w bits, or by one word alone
+pub record IsOtherFactor (w factor product : ℕ) (refuted : Bool) (forced : Option ℕ) : Type 0 where
+  pub refutes : IsTrue refuted ↔ ((q : ℕ) → q < 2 ^ w → product ≡ factor * q → ⊥)
+  pub forces : (q : ℕ) → (forced ≡ Some q) ↔ ((q < 2 ^ w) × (product ≡ factor * q) × ((r : ℕ) → r < 2 ^ w → product ≡ factor * r → r ≡ q))

@@ -3,10 +3,11 @@
 ghost use Rattle.std.specs.Prelude.{◌≡◌, length};
 ghost use Rattle.circuit_model.specs.Inference.{IsInference, IsOfPorts};
 ghost use Rattle.circuit_model.specs.Lawful.{AreLawfulWidths};
-ghost use Rattle.component_models.specs.Asking.{WordsFit, HasOpenPort, IsBuilt};
+ghost use Rattle.component_models.specs.Asking.{WordsFit, HasOpenPort};
 
 use crate::copies::{infer_buf, infer_const, infer_not};
 use crate::gates::{infer_and, infer_nand, infer_nor, infer_or, infer_xnor, infer_xor};
+use crate::products::infer_product;
 use crate::sums::infer_sum;
 use circuit_model::Prim;
 use word_domain::Width;
@@ -28,11 +29,10 @@ pub fn infer(prim: Prim, widths: [Width; 3], known: [Option<u64>; 3]) -> Inferen
     requires words { WordsFit widths known }
     requires ports { IsOfPorts prim known }
     requires open_port { HasOpenPort prim known }
-    requires built { IsBuilt prim }
     ensures exact { IsInference prim widths known result.refuted result.forced }
     ensures fit { WordsFit widths result.forced }
 {
-    let [width, _, _] = widths;
+    let [width, second, _] = widths;
     let [a, b, z] = known;
     match prim {
         Prim::Buf => infer_buf(width, a, b),
@@ -44,7 +44,7 @@ pub fn infer(prim: Prim, widths: [Width; 3], known: [Option<u64>; 3]) -> Inferen
         Prim::Nor => infer_nor(width, a, b, z),
         Prim::Xnor => infer_xnor(width, a, b, z),
         Prim::Add => infer_sum(width, a, b, z),
-        Prim::Mul => unreachable!(),
+        Prim::Mul => infer_product(width, second, a, b, z),
         Prim::Const { value } => infer_const(value),
     }
 }

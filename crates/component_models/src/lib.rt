@@ -4,6 +4,10 @@
 mod copies;
 mod gates;
 mod inference;
+mod products;
 mod sums;
 
 pub use inference::{Inference, infer};
+
+#[cfg(test)]
+mod tests;

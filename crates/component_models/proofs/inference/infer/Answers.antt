@@ -1,10 +1,10 @@
 use Rattle.std.proofs.Common.{◌≡◌, ℕ, length, refl, subst, Option, List, rules}
 use Rattle.circuit_model.specs.declared.model.Primitive.{Primitive}
-use Rattle.circuit_model.specs.declared.model.Primitive.TheVariants.{Buf, Not, Const, And, Or, Xor, Nand, Nor, Xnor, Add}
+use Rattle.circuit_model.specs.declared.model.Primitive.TheVariants.{Buf, Not, Const, And, Or, Xor, Nand, Nor, Xnor, Add, Mul}
 use Rattle.circuit_model.specs.Inference.{IsOfPorts}
 use Rattle.component_models.specs.Asking.{HasOpenPort}
 use Rattle.circuit_model.specs.Lawful.{AreLawfulWidths}
-use Rattle.component_models.proofs.Asked.{of_two_ports, of_three_ports, of_constant}
+use Rattle.component_models.proofs.Asked.{of_two_ports, of_three_ports, of_constant, of_multiplier}
 use Rattle.component_models.proofs.Fitting.{forced_words_fit}
 use Rattle.component_models.proofs.inference.infer.Goals as goal
 
@@ -125,3 +125,14 @@ returns-in-Const-clause-exact c = constant c
 
 pub returns-in-Const-clause-fit : goal.returns-in-Const-clause-fit
 returns-in-Const-clause-fit c = forced_words_fit _ _ _ _ _ (constant c)
+
+product : goal.returns-in-Mul-clause-exact
+product c =
+    let three : length c.args.known ≡ 3 = search rules in
+    rw c.in-Mul.is (of_multiplier c.args.widths _ _ (lawful_at _ Mul c.args.widths c.in-Mul.is c.requires.widths) c.args.known three _ _ c.infer_product.ensures)
+
+pub returns-in-Mul-clause-exact : goal.returns-in-Mul-clause-exact
+returns-in-Mul-clause-exact c = product c
+
+pub returns-in-Mul-clause-fit : goal.returns-in-Mul-clause-fit
+returns-in-Mul-clause-fit c = forced_words_fit _ _ _ _ _ (product c)
