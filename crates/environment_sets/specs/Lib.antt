@@ -1,3 +1,5 @@
 pub mod Sets
+pub mod Members
 pub mod Lists
 pub mod Orders
+pub mod Laws

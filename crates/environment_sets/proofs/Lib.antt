@@ -1,0 +1,5 @@
+pub mod Slots
+pub mod Listings
+pub mod Sizes
+pub mod OrderLaws
+pub mod Hitting
