@@ -3,3 +3,6 @@ pub mod Listings
 pub mod Sizes
 pub mod OrderLaws
 pub mod Hitting
+pub mod Walking
+pub mod Within
+pub mod Left

@@ -12,7 +12,7 @@ pub not_true : (b : Bool) → (IsTrue b → ⊥) → b ≡ false
 not_true true h = absurd (h refl)
 not_true false h = refl
 
-last_or_lower : (k n : ℕ) → k < suc n → (k ≡ n) ⊎ (k < n)
+pub last_or_lower : (k n : ℕ) → k < suc n → (k ≡ n) ⊎ (k < n)
 last_or_lower k n h = grind arith
 
 itself_out : (E : Set ℕ) (n : ℕ) → (E ∖ only n) n ≡ false
@@ -34,7 +34,7 @@ unfolding size_below
 size_below-agree zero E F same = refl
 size_below-agree (suc n) E F same = ap₂ (λ a b. a + cond b 1 0) (size_below-agree n E F (λ k low. same k (omega arith))) (same n (omega arith))
 
-size_below-none : (n : ℕ) (E : Set ℕ) → ((k : ℕ) → k < n → E k ≡ false) → size_below n E ≡ 0
+pub size_below-none : (n : ℕ) (E : Set ℕ) → ((k : ℕ) → k < n → E k ≡ false) → size_below n E ≡ 0
 unfolding size_below
 size_below-none zero E none = refl
 size_below-none (suc n) E none = ap₂ (λ a b. a + cond b 1 0) (size_below-none n E (λ k low. none k (omega arith))) (none n (omega arith))

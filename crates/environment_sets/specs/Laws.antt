@@ -1,13 +1,14 @@
 -- Laws of sets, of their order and of lists of them.
-use Rattle.std.specs.Prelude.{◌≡◌, ◌↔◌, ◌⊎◌, ℕ, List}
+use Rattle.std.specs.Prelude.{◌≡◌, ◌↔◌, ◌⊎◌, ℕ, None, List}
 use Rattle.std.specs.List.{count_by}
 use Rattle.std.specs.declared.cmp.Ordering.TheVariants.{Equal}
 use Rattle.environment_sets.specs.declared.environment.Env.{Env}
 use Rattle.environment_sets.specs.declared.environment.TheConstants.{SLOTS}
-use Rattle.environment_sets.specs.Sets.{Set, no_elements, IsBelow, size_below, IsMinimalHittingSet}
+use Rattle.environment_sets.specs.Sets.{Set, no_elements, ◌⊆◌, IsBelow, size_below, IsMinimalHittingSet}
 use Rattle.environment_sets.specs.Members.{members}
 use Rattle.environment_sets.specs.Lists.{IsIn, IsRising, IsStrict, AreDistinct, IsListing}
 use Rattle.environment_sets.specs.Orders.{Lists, compare_in, ComesBefore}
+use Rattle.environment_sets.specs.Walks.{IsWalk}
 
 -- each slot of an environment is below the bound
 abbrev pub SlotsAreBelow : Type 0
@@ -44,3 +45,7 @@ module _ (N : Type 0) where
   -- a listing of the sets of a rising list is that list, so the sets with a property have one listing
   abbrev pub ListingsAreUnique : Type 0
   ListingsAreUnique = (order : List N) (xs ys : List (Set N)) → IsRising (ComesBefore order) xs → IsListing (ComesBefore order) (IsIn xs) ys → xs ≡ ys
+
+  -- a walk from the start lists the members inside the mask
+  abbrev pub WalksListAll : Type 0
+  WalksListAll = (order : List N) (Es : List (Set N)) (mask : Set N) (walk : List (Set N)) → IsWalk order (IsIn Es) mask None walk → IsListing (ComesBefore order) (λ E. IsIn Es E × (E ⊆ mask)) walk

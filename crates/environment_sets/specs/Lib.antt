@@ -2,4 +2,5 @@ pub mod Sets
 pub mod Members
 pub mod Lists
 pub mod Orders
+pub mod Walks
 pub mod Laws

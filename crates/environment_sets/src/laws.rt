@@ -1,6 +1,6 @@
 // Laws of sets, of their order and of lists of them.
 
-ghost use Rattle.environment_sets.specs.Laws.{SlotsAreBelow, SameSlotsAreEqual, SizesAreCounts, NoneIsHitByNone, OrderIsStrict, OrderIsTransitive, EqualSetsAreSame, OrderIsTotal, ListingsAreUnique};
+ghost use Rattle.environment_sets.specs.Laws.{SlotsAreBelow, SameSlotsAreEqual, SizesAreCounts, NoneIsHitByNone, OrderIsStrict, OrderIsTransitive, EqualSetsAreSame, OrderIsTotal, ListingsAreUnique, WalksListAll};
 
 /// Each slot of an environment is below [`SLOTS`](crate::SLOTS).
 pub fn slots_are_below_the_bound()
@@ -45,4 +45,10 @@ pub fn listings_are_unique<N>()
 /// Of no sets the one minimal hitting set is the empty set.
 pub fn none_is_hit_by_none()
     ensures { NoneIsHitByNone }
+{}
+
+/// A walk from the start, from each set to the next until there is none, gives every member inside the mask once, in
+/// order.
+pub fn walks_list_all<N>()
+    ensures { WalksListAll N }
 {}
