@@ -3,10 +3,10 @@ use Rattle.std.proofs.Common.{◌≡◌, ℕ, ◌+◌, ◌<◌, ◌≤◌, ◌�
 use Rattle.std.specs.List.{count_by}
 use Rattle.std.specs.Ordering.{is_lt}
 use Rattle.std.proofs.lemmas.List.Sums.{sum_by-cons}
-use Rattle.environment_sets.specs.Sets.{Set, ◌⊆◌}
+use Rattle.environment_sets.specs.Sets.{Set, ◌⊆◌, is_within}
 use Rattle.environment_sets.specs.Lists.{IsIn}
 use Rattle.environment_sets.specs.Orders.{compare_in, ComesBefore}
-use Rattle.environment_sets.specs.Walks.{ComesAfter, IsFurther, is_after, is_within, count_left}
+use Rattle.environment_sets.specs.Walks.{ComesAfter, IsFurther, is_after, count_left}
 use Rattle.environment_sets.proofs.OrderLaws.{order_is_strict, order_is_transitive}
 use Rattle.environment_sets.proofs.Within.{holds_within}
 

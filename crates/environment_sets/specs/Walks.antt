@@ -1,8 +1,8 @@
 -- Walks through sets in order, from each to the next.
-use Rattle.std.specs.Prelude.{◌≡◌, ◌⊎◌, ℕ, Bool, true, ◌&&◌, ◌==◌, Option, Some, None, List, [], ◌∷◌}
+use Rattle.std.specs.Prelude.{◌≡◌, ◌⊎◌, ℕ, Bool, true, ◌&&◌, Option, Some, None, List, [], ◌∷◌}
 use Rattle.std.specs.List.{count_by}
 use Rattle.std.specs.Ordering.{is_lt}
-use Rattle.environment_sets.specs.Sets.{Set, ◌⊆◌, ◌∖◌, size_below}
+use Rattle.environment_sets.specs.Sets.{Set, ◌⊆◌, is_within}
 use Rattle.environment_sets.specs.Lists.{IsIn, IsListing}
 use Rattle.environment_sets.specs.Orders.{compare_in, ComesBefore}
 
@@ -36,10 +36,6 @@ module _ {N : Type 0} where
   abbrev pub is_after : List N → Option (Set N) → Set N → Bool
   is_after order None E = true
   is_after order (Some last) E = is_lt (compare_in order last E)
-
--- no number below n is in E alone
-abbrev pub is_within : ℕ → Set ℕ → Set ℕ → Bool
-is_within n E F = size_below n (E ∖ F) == 0
 
 -- how many of the sets, of numbers below n, are inside the mask and come after the last
 abbrev pub count_left : ℕ → List ℕ → Set ℕ → Option (Set ℕ) → List (Set ℕ) → ℕ

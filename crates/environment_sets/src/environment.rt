@@ -18,7 +18,7 @@ pub struct Env {
 impl Env {
     ghost use Rattle.std.specs.Prelude.{◌<◌, ◌↔◌, IsTrue};
     ghost use Rattle.std.specs.List.{count_by};
-    ghost use Rattle.environment_sets.specs.Sets.{no_elements, only, size_below, ◌∪◌, ◌∩◌, ◌∖◌, ◌⊆◌};
+    ghost use Rattle.environment_sets.specs.Sets.{no_elements, only, size_below, is_within, ◌∪◌, ◌∩◌, ◌∖◌, ◌⊆◌};
     ghost use Rattle.environment_sets.specs.Members.{members};
     ghost use Rattle.environment_sets.specs.Lists.{IsIn};
     ghost use Rattle.environment_sets.specs.Orders.{compare_in, by_first, Lists, IsOrder};
@@ -76,7 +76,10 @@ impl Env {
 
     /// Whether each slot is one of the other environment too. An environment is a subset of itself.
     pub fn is_subset(&self, other: &Env) -> bool
-        ensures { IsTrue result ↔ (members self.now ⊆ members other.now) }
+        ensures subset { IsTrue result ↔ (members self.now ⊆ members other.now) }
+
+        // `subset` again, as a test that computes.
+        ensures test { result ≡ is_within SLOTS (members self.now) (members other.now) }
     {
         for i in 0..SLOTS {
             if self.slots[i] && !other.slots[i] {
