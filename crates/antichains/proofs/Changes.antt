@@ -73,8 +73,8 @@ adds-left e old left new is pushed =
 pub antichain-added : (e : Env) (old left new : List Env) → IsLeft (leaves_out e) old left → new ≡ left ++ e ∷ [] → (Covers (IsIn (sets old)) (members e) → ⊥) → IsAntichain (sets old) → IsAntichain (sets new)
 antichain-added e old left new is pushed uncovered apart =
     subst IsAntichain (sym (ap sets pushed ∙ sets-push left e)) (IsRising-push AreApart (sets left) (members e) (antichain-left (leaves_out e) old left is apart) (λ F h.
-      let kept : IsIn (sets old) F × (members e ⊆ F → ⊥) = (drops_over-left e old left is F).0 h in
-      (λ within. uncovered (F, kept.0, within), kept.1)))
+    let kept : IsIn (sets old) F × (members e ⊆ F → ⊥) = (drops_over-left e old left is F).0 h in
+    (λ within. uncovered (F, kept.0, within), kept.1)))
 
 -- some environment of the list is a subset of this one
 abbrev pub is_covered : List Env → Env → Bool

@@ -1,15 +1,15 @@
 // Sets of environments, none of which contains another.
-ghost use Rattle.std.specs.Prelude.{◌≡◌, ◌<◌, ◌↔◌, IsTrue, IfOk, OnErr, IfSome, Ok, [], length};
+ghost use Rattle.std.specs.Prelude.{◌≡◌, ◌<◌, ◌↔◌, IsTrue, IfOk, OnErr, IfSome, Some, Ok, [], length};
 ghost use Rattle.std.specs.Option.{ForSome, option_map, option_copied};
 ghost use Rattle.environment_sets.specs.Sets.{◌⊆◌};
 ghost use Rattle.environment_sets.specs.Members.{members, sets, HasMember};
 ghost use Rattle.environment_sets.specs.Orders.{Lists, IsOrder};
-ghost use Rattle.environment_sets.specs.Walks.{GivesNext, count_left};
+ghost use Rattle.environment_sets.specs.Walks.{ComesAfter, GivesNext, count_left};
 ghost use Rattle.antichains.specs.Families.{Covers, Adds, Drops, IsAntichain};
+ghost use Rattle.antichains.specs.Nearest.{IsFirstOf};
 
 use environment_sets::{Env, SLOTS};
 use std::alloc::Global;
-use std::cmp::Ordering;
 use std::marker::Model;
 
 /// Memory ran out.
@@ -101,6 +101,25 @@ impl Antichain {
         self.list.retain(|member| !env.is_subset(member));
     }
 
+    /// The first member that is inside the mask and comes after `last`, or after nothing: the first of all. Calls
+    /// that are each given the answer before go through all members inside the mask, and the count of those that
+    /// are left falls from call to call.
+    pub fn next_after(&self, order: &[u16], mask: &Env, last: Option<&Env>) -> Option<Env>
+        requires slots { IsOrder SLOTS order.now }
+        requires mask_listed { Lists order.now (members mask.now) }
+        requires last_listed { ForSome last (λ l. Lists order.now (members l.now)) }
+        ensures next { GivesNext order.now (HasMember self.now) (members mask.now) (option_map members (option_copied last.entry)) (option_map members result) }
+        ensures falls { IfSome result (λ e. count_left SLOTS order.now (members mask.now) (Some (members e)) (sets self.now) < count_left SLOTS order.now (members mask.now) (option_map members (option_copied last.entry)) (sets self.now)) }
+    {
+        let mut next = None;
+        for member in &self.list {
+            if is_further(order, mask, last, member) {
+                next = Some(first_of(order, next, *member));
+            }
+        }
+        next
+    }
+
     /// The same members. It is the one call besides `insert` that takes memory.
     pub fn copy(&self, alloc: Global) -> Result<Antichain, OutOfMemory>
         ensures { IfOk result (λ copy. copy ≡ self.now) }
@@ -109,5 +128,40 @@ impl Antichain {
             Ok(list) => Ok(Antichain { list }),
             Err(_) => Err(OutOfMemory),
         }
+    }
+}
+
+// Whether the member is inside the mask and comes after the last.
+fn is_further(order: &[u16], mask: &Env, last: Option<&Env>, member: &Env) -> bool
+    requires slots { IsOrder SLOTS order.now }
+    requires mask_listed { Lists order.now (members mask.now) }
+    requires last_listed { ForSome last (λ l. Lists order.now (members l.now)) }
+    ensures { IsTrue result ↔ ((members member.now ⊆ members mask.now) × ComesAfter order.now (option_map members (option_copied last.entry)) (members member.now)) }
+{
+    if !member.is_subset(mask) {
+        return false;
+    }
+    match last {
+        Some(last) => last.compare_in(order, member).is_lt(),
+        None => true,
+    }
+}
+
+// What was found before, or the member where that comes first.
+fn first_of(order: &[u16], found: Option<Env>, member: Env) -> Env
+    requires slots { IsOrder SLOTS order.now }
+    requires found_listed { ForSome found (λ e. Lists order.now (members e)) }
+    requires listed { Lists order.now (members member) }
+    ensures { IsFirstOf order.now (option_map members found) (members member) (members result) }
+{
+    match found {
+        Some(env) => {
+            if env.compare_in(order, &member).is_lt() {
+                env
+            } else {
+                member
+            }
+        }
+        None => member,
     }
 }

@@ -19,5 +19,5 @@ returns c =
     let P : List Env → Type 0 = λ old. Drops (HasMember old) (HasMember new) (λ F. members c.args.env.now ⊆ F) in
     record {
       dropped = subst P c.self.view_is (drops_over-left c.args.env.now c.self.inside.list.items new (left c));
-      antichain = invariant_of-self c
+      antichain = invariant_of-self c;
     }

@@ -18,5 +18,5 @@ returns c =
     let P : List Env → Type 0 = λ old. Drops (HasMember old) (HasMember new) (λ F. IsTrue (F c.args.slot)) in
     record {
       dropped = subst P c.self.view_is (drops_slot-left c.args.slot c.self.inside.list.items new (left c));
-      antichain = invariant_of-self c
+      antichain = invariant_of-self c;
     }
