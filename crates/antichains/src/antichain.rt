@@ -69,7 +69,7 @@ impl Antichain {
         if self.list.reserve(1).is_err() {
             return Err(OutOfMemory);
         }
-        self.list.retain(|member| !env.is_subset(member));
+        self.list.retain(|kept| !env.is_subset(kept));
         match self.list.push(env) {
             Ok(()) => Ok(Inserted::Added),
             Err(_) => unreachable!(),
