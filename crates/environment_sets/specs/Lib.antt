@@ -1,3 +1,6 @@
 pub mod Sets
+pub mod Members
 pub mod Lists
 pub mod Orders
+pub mod Walks
+pub mod Laws

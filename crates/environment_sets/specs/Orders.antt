@@ -1,10 +1,11 @@
 -- The order of sets of names.
-use Rattle.std.specs.Prelude.{◌≡◌, ◌&&◌, not, if◌then◌else◌, List, [], ◌∷◌}
+use Rattle.std.specs.Prelude.{◌≡◌, ℕ, ◌<◌, IsTrue, ◌&&◌, not, if◌then◌else◌, List, [], ◌∷◌}
 use Rattle.std.specs.List.{count_by}
 use Rattle.std.specs.Ordering.{nat_cmp}
 use Rattle.std.specs.declared.cmp.Ordering.{Ordering}
 use Rattle.std.specs.declared.cmp.Ordering.TheVariants.{Less, Equal, Greater}
 use Rattle.environment_sets.specs.Sets.{Set}
+use Rattle.environment_sets.specs.Lists.{IsIn, AreDistinct}
 
 abbrev pub first_of_both : Ordering → Ordering → Ordering
 first_of_both Less o = Less
@@ -23,3 +24,12 @@ module _ {N : Type 0} where
 
   abbrev pub ComesBefore : List N → Set N → Set N → Type 0
   ComesBefore order E F = compare_in order E F ≡ Less
+
+  -- each element of the set is one of the names
+  abbrev pub Lists : List N → Set N → Type 0
+  Lists order E = (k : N) → IsTrue (E k) → IsIn order k
+
+-- distinct numbers below n
+pub record IsOrder (n : ℕ) (order : List ℕ) : Type 0 where
+  pub below : (k : ℕ) → IsIn order k → k < n
+  pub distinct : AreDistinct order

@@ -1,0 +1,28 @@
+use Rattle.std.proofs.Common.{◌≡◌, rules, true≢false, sym, ◌∙◌, ◌∷◌, [], ◌++◌, List, subst}
+use Rattle.std.proofs.lemmas.Fn.{filter_same}
+use Rattle.environment_sets.specs.declared.environment.Env.{Env}
+use Rattle.environment_sets.specs.Members.{members, sets, HasMember}
+use Rattle.antichains.specs.Families.{Covers, Adds}
+use Rattle.antichains.proofs.Changes.{leaves_out, IsLeft, adds-left, antichain-added}
+use Rattle.antichains.proofs.antichain.Antichain.insert.Goals as goal
+
+left : (c : goal.In-Ok) → IsLeft (leaves_out c.args.env) c.self.inside.list.items c.retain.new.self.items
+left c =
+    let P : List Env → Type 0 = λ old. IsLeft (leaves_out c.args.env) old c.retain.new.self.items in
+    subst P c.reserve.ensures.items (record { filtered = filter_same _ (λ (e : Env). leaves_out c.args.env (members e)) _ (λ x b q k. search rules) _ _ c.retain.ensures.filtered })
+
+pub invariant_of-self-2 : goal.invariant_of-self-2
+invariant_of-self-2 c =
+    let old = c.self.inside.list.items in
+    let P : List Env → Type 0 = λ es. Covers (HasMember es) (members c.args.env) → ⊥ in
+    let uncovered : Covers (HasMember c.args.self.now) (members c.args.env) → ⊥ = λ covered. true≢false (sym (c.covers.ensures.covered.1 covered) ∙ c.if-covers.false) in
+    antichain-added c.args.env old c.retain.new.self.items c.push.new.self.items (left c) c.in-Ok.ensures.items (subst P (sym c.self.view_is) uncovered) c.self.invariant
+
+pub returns-clause-added : goal.returns-clause-added
+returns-clause-added c = λ _.
+    let new = c.push.new.self.items in
+    let P : List Env → Type 0 = λ old. Adds (HasMember old) (HasMember new) (members c.args.env) in
+    subst P c.self.view_is (adds-left c.args.env c.self.inside.list.items c.retain.new.self.items new (left c) c.in-Ok.ensures.items)
+
+pub returns-clause-antichain : goal.returns-clause-antichain
+returns-clause-antichain c = invariant_of-self-2 c

@@ -1,0 +1,167 @@
+// Sets of environments, none of which contains another.
+ghost use Rattle.std.specs.Prelude.{◌≡◌, ◌<◌, ◌↔◌, IsTrue, IfOk, OnErr, IfSome, Some, Ok, [], length};
+ghost use Rattle.std.specs.Option.{ForSome, option_map, option_copied};
+ghost use Rattle.environment_sets.specs.Sets.{◌⊆◌};
+ghost use Rattle.environment_sets.specs.Members.{members, sets, HasMember};
+ghost use Rattle.environment_sets.specs.Orders.{Lists, IsOrder};
+ghost use Rattle.environment_sets.specs.Walks.{ComesAfter, GivesNext, count_left};
+ghost use Rattle.antichains.specs.Families.{Covers, Adds, Drops, IsAntichain};
+ghost use Rattle.antichains.specs.Nearest.{IsFirstOf};
+
+use environment_sets::{Env, SLOTS};
+use std::alloc::Global;
+use std::marker::Model;
+
+/// Memory ran out.
+#[derive(Clone, Copy, Debug, PartialEq, Eq)]
+pub struct OutOfMemory;
+
+/// What an insertion did.
+#[derive(Clone, Copy, Debug, PartialEq, Eq)]
+pub enum Inserted {
+    /// A member is a subset of the environment already.
+    Covered,
+    /// The environment is a member now, and what contained it is not.
+    Added,
+}
+
+/// A set of environments none of which contains another: the minimal ones of those that were inserted.
+#[derive(Drop)]
+pub struct Antichain {
+    list: Vec<Env>,
+}
+
+impl Model for Antichain {
+    ghost use Rattle.std.specs.Prelude.{List};
+    ghost use Rattle.environment_sets.specs.declared.environment.Env.{Env};
+    ghost use Rattle.environment_sets.specs.Members.{sets};
+    ghost use Rattle.antichains.specs.Families.{IsAntichain};
+
+    ghost Value = { List Env };
+
+    ghost view = { λ a. a.list.items };
+
+    ghost invariant = { λ a. IsAntichain (sets a.list.items) };
+}
+
+impl Antichain {
+    /// No members. It takes no memory.
+    pub fn new(alloc: Global) -> Antichain
+        ensures { result ≡ [] }
+    {
+        Antichain {
+            list: Vec::new(alloc),
+        }
+    }
+
+    /// Puts the environment in, unless a member is a subset of it, and drops the members that contain it.
+    /// `Covered` takes no memory. After an error the members are as before.
+    pub fn insert(&mut self, env: Env) -> Result<Inserted, OutOfMemory>
+        ensures covered { (result ≡ Ok Inserted.Covered) ↔ Covers (HasMember self.old) (members env) }
+        ensures covered_same { (result ≡ Ok Inserted.Covered) → self.new ≡ self.old }
+        ensures added { (result ≡ Ok Inserted.Added) → Adds (HasMember self.old) (HasMember self.new) (members env) }
+        ensures err { OnErr result (self.new ≡ self.old) }
+        ensures antichain { IsAntichain (sets self.new) }
+    {
+        if self.covers(&env) {
+            return Ok(Inserted::Covered);
+        }
+        if self.list.reserve(1).is_err() {
+            return Err(OutOfMemory);
+        }
+        self.list.retain(|kept| !env.is_subset(kept));
+        match self.list.push(env) {
+            Ok(()) => Ok(Inserted::Added),
+            Err(_) => unreachable!(),
+        }
+    }
+
+    /// Whether a member is a subset of the environment.
+    pub fn covers(&self, env: &Env) -> bool
+        ensures covered { IsTrue result ↔ Covers (HasMember self.now) (members env.now) }
+        ensures antichain { IsAntichain (sets self.now) }
+    {
+        self.list.iter().any(|member| member.is_subset(env))
+    }
+
+    /// Drops the members that have the slot.
+    pub fn drop_slot(&mut self, slot: u16)
+        requires { slot < SLOTS }
+        ensures dropped { Drops (HasMember self.old) (HasMember self.new) (λ F. IsTrue (F slot)) }
+        ensures antichain { IsAntichain (sets self.new) }
+    {
+        self.list.retain(|member| !member.has(slot));
+    }
+
+    /// Drops the members that contain the environment.
+    pub fn drop_over(&mut self, env: &Env)
+        ensures dropped { Drops (HasMember self.old) (HasMember self.new) (λ F. members env.now ⊆ F) }
+        ensures antichain { IsAntichain (sets self.new) }
+    {
+        self.list.retain(|member| !env.is_subset(member));
+    }
+
+    /// The first member that is inside the mask and comes after `last`, or after nothing: the first of all. Calls
+    /// that are each given the answer before go through all members inside the mask, and the count of those that
+    /// are left falls from call to call.
+    pub fn next_after(&self, order: &[u16], mask: &Env, last: Option<&Env>) -> Option<Env>
+        requires slots { IsOrder SLOTS order.now }
+        requires mask_listed { Lists order.now (members mask.now) }
+        requires last_listed { ForSome last (λ l. Lists order.now (members l.now)) }
+        ensures next { GivesNext order.now (HasMember self.now) (members mask.now) (option_map members (option_copied last.entry)) (option_map members result) }
+        ensures falls { IfSome result (λ e. count_left SLOTS order.now (members mask.now) (Some (members e)) (sets self.now) < count_left SLOTS order.now (members mask.now) (option_map members (option_copied last.entry)) (sets self.now)) }
+    {
+        let mut next = None;
+        for member in &self.list {
+            if is_further(order, mask, last, member) {
+                next = Some(first_of(order, next, *member));
+            }
+        }
+        next
+    }
+
+    /// The same members. It is the one call besides `insert` that takes memory.
+    pub fn copy(&self, alloc: Global) -> Result<Antichain, OutOfMemory>
+        ensures { IfOk result (λ copy. copy ≡ self.now) }
+    {
+        match Vec::from_slice(alloc, &self.list) {
+            Ok(list) => Ok(Antichain { list }),
+            Err(_) => Err(OutOfMemory),
+        }
+    }
+}
+
+// Whether the member is inside the mask and comes after the last.
+fn is_further(order: &[u16], mask: &Env, last: Option<&Env>, member: &Env) -> bool
+    requires slots { IsOrder SLOTS order.now }
+    requires mask_listed { Lists order.now (members mask.now) }
+    requires last_listed { ForSome last (λ l. Lists order.now (members l.now)) }
+    ensures { IsTrue result ↔ ((members member.now ⊆ members mask.now) × ComesAfter order.now (option_map members (option_copied last.entry)) (members member.now)) }
+{
+    if !member.is_subset(mask) {
+        return false;
+    }
+    match last {
+        Some(last) => last.compare_in(order, member).is_lt(),
+        None => true,
+    }
+}
+
+// What was found before, or the member where that comes first.
+fn first_of(order: &[u16], found: Option<Env>, member: Env) -> Env
+    requires slots { IsOrder SLOTS order.now }
+    requires found_listed { ForSome found (λ e. Lists order.now (members e)) }
+    requires listed { Lists order.now (members member) }
+    ensures { IsFirstOf order.now (option_map members found) (members member) (members result) }
+{
+    match found {
+        Some(env) => {
+            if env.compare_in(order, &member).is_lt() {
+                env
+            } else {
+                member
+            }
+        }
+        None => member,
+    }
+}

@@ -1,0 +1,6 @@
+// Antichains of environments.
+#![tactic(auto)]
+
+mod antichain;
+
+pub use antichain::{Antichain, Inserted, OutOfMemory};

@@ -1,0 +1,7 @@
+use Rattle.std.proofs.Common.{◌≡◌, ◌≤◌}
+use Rattle.environment_sets.specs.Sets.{size_below}
+use Rattle.environment_sets.specs.Members.{members}
+use Rattle.environment_sets.proofs.environment.Env.size.Given as goal
+
+abbrev pub invariant-loop-i : goal.invariant-loop-i
+invariant-loop-i l = record { counted : l.size ≡ size_below l.i (members l.self); few : l.size ≤ l.i }

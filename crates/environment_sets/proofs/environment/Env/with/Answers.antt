@@ -1,0 +1,8 @@
+use Rattle.std.proofs.Common.{arith}
+use Rattle.environment_sets.specs.Members.{members}
+use Rattle.environment_sets.proofs.Slots.{places-set_true}
+use Rattle.environment_sets.proofs.environment.Env.with.Goals as goal
+
+pub returns : goal.returns
+unfolding members
+returns c = places-set_true c.args.self.slots c.args.slot (omega arith)

@@ -1,0 +1,5 @@
+use Rattle.environment_sets.proofs.OrderLaws.{order_is_total}
+use Rattle.environment_sets.proofs.laws.order_is_total.Goals as goal
+
+pub returns : goal.returns
+returns g c = order_is_total _

@@ -1,0 +1,7 @@
+// Labels of facts.
+#![tactic(auto)]
+
+mod labels;
+
+pub use antichains::{Inserted, OutOfMemory};
+pub use labels::Label;

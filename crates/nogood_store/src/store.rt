@@ -1,0 +1,91 @@
+// Nogoods.
+ghost use Rattle.std.specs.Prelude.{◌≡◌, ◌<◌, ◌↔◌, IsTrue, IfOk, OnErr, IfSome, Some, Ok, []};
+ghost use Rattle.std.specs.Option.{ForSome, option_map, option_copied};
+ghost use Rattle.environment_sets.specs.Members.{members, sets, HasMember};
+ghost use Rattle.environment_sets.specs.Orders.{Lists, IsOrder};
+ghost use Rattle.environment_sets.specs.Walks.{GivesNext, count_left};
+ghost use Rattle.antichains.specs.Families.{Covers, Adds, Drops, IsAntichain};
+
+use antichains::{Antichain, Inserted, OutOfMemory};
+use environment_sets::{Env, SLOTS};
+use std::alloc::Global;
+use std::marker::Model;
+
+/// The nogoods that are known (de Kleer 1986): the environments that cannot hold, the minimal ones alone. What contains
+/// one of them cannot hold either.
+#[derive(Drop)]
+pub struct Nogoods {
+    antichain: Antichain,
+}
+
+impl Model for Nogoods {
+    ghost use Rattle.std.specs.Prelude.{List};
+    ghost use Rattle.environment_sets.specs.declared.environment.Env.{Env};
+
+    ghost Value = { List Env };
+
+    ghost view = { λ l. l.antichain };
+}
+
+impl Nogoods {
+    /// No nogoods. It takes no memory.
+    pub fn new(alloc: Global) -> Nogoods
+        ensures { result ≡ [] }
+    {
+        Nogoods {
+            antichain: Antichain::new(alloc),
+        }
+    }
+
+    /// Puts the environment in, unless a member is a subset of it, and drops the members that contain it.
+    /// `Covered` takes no memory. After an error the members are as before.
+    pub fn insert(&mut self, env: Env) -> Result<Inserted, OutOfMemory>
+        ensures covered { (result ≡ Ok Inserted.Covered) ↔ Covers (HasMember self.old) (members env) }
+        ensures covered_same { (result ≡ Ok Inserted.Covered) → self.new ≡ self.old }
+        ensures added { (result ≡ Ok Inserted.Added) → Adds (HasMember self.old) (HasMember self.new) (members env) }
+        ensures err { OnErr result (self.new ≡ self.old) }
+        ensures antichain { IsAntichain (sets self.new) }
+    {
+        self.antichain.insert(env)
+    }
+
+    /// Whether a member is a subset of the environment.
+    pub fn covers(&self, env: &Env) -> bool
+        ensures covered { IsTrue result ↔ Covers (HasMember self.now) (members env.now) }
+        ensures antichain { IsAntichain (sets self.now) }
+    {
+        self.antichain.covers(env)
+    }
+
+    /// Drops the members that have the slot.
+    pub fn drop_slot(&mut self, slot: u16)
+        requires { slot < SLOTS }
+        ensures dropped { Drops (HasMember self.old) (HasMember self.new) (λ F. IsTrue (F slot)) }
+        ensures antichain { IsAntichain (sets self.new) }
+    {
+        self.antichain.drop_slot(slot);
+    }
+
+    /// The first member that is inside the mask and comes after `last`, or after nothing: the first of all. Calls
+    /// that are each given the answer before go through all members inside the mask, and the count of those that
+    /// are left falls from call to call.
+    pub fn next_after(&self, order: &[u16], mask: &Env, last: Option<&Env>) -> Option<Env>
+        requires slots { IsOrder SLOTS order.now }
+        requires mask_listed { Lists order.now (members mask.now) }
+        requires last_listed { ForSome last (λ l. Lists order.now (members l.now)) }
+        ensures next { GivesNext order.now (HasMember self.now) (members mask.now) (option_map members (option_copied last.entry)) (option_map members result) }
+        ensures falls { IfSome result (λ e. count_left SLOTS order.now (members mask.now) (Some (members e)) (sets self.now) < count_left SLOTS order.now (members mask.now) (option_map members (option_copied last.entry)) (sets self.now)) }
+    {
+        self.antichain.next_after(order, mask, last)
+    }
+
+    /// The same members.
+    pub fn copy(&self, alloc: Global) -> Result<Nogoods, OutOfMemory>
+        ensures { IfOk result (λ copy. copy ≡ self.now) }
+    {
+        match self.antichain.copy(alloc) {
+            Ok(antichain) => Ok(Nogoods { antichain }),
+            Err(stop) => Err(stop),
+        }
+    }
+}
