@@ -4,3 +4,10 @@ pub mod Paddings
 pub mod Presents
 pub mod Readings
 pub mod Cycles
+pub mod SmallerStock
+pub mod Loads
+pub mod Reiter
+pub mod Diagnoses
+pub mod Settled
+pub mod Renaming
+pub mod Listed

@@ -10,3 +10,7 @@ pub mod Present
 pub mod Padding
 pub mod Whole
 pub mod Kept
+pub mod Settled
+pub mod Renaming
+pub mod Load
+pub mod Probe

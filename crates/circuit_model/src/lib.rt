@@ -13,7 +13,12 @@ mod tests;
 
 pub use instances::instances_of;
 pub use laws::{
-    fewer_assumptions_close_less, forced_facts_follow, part_of_a_consistent_environment,
+    diagnoses_are_hitting_sets, fewer_assumptions_close_less,
+    fewer_assumptions_have_no_larger_load, forced_facts_follow,
+    labels_are_the_same_under_other_names, labels_of_fewer_assumptions,
+    labels_with_one_more_assumption, listed_labels_cover, nogoods_are_the_same_under_other_names,
+    nogoods_of_fewer_assumptions, nogoods_with_one_more_assumption,
+    part_of_a_consistent_environment, readings_are_consistent, there_is_a_diagnosis,
 };
 pub use model::{Assumption, Cell, Fact, Instance, Kind, Part, Primitive as Prim};
 pub use name::Name;
