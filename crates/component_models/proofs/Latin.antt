@@ -1,12 +1,11 @@
 -- Relations in which any two words determine the third, and one word alone says nothing.
 use Rattle.std.proofs.Common.{◌≡◌, ◌≢◌, ℕ, ◌^◌, ◌<◌, ◌≤◌, ◌⊎◌, inl, inr, false, refl, sym, ap, ◌∙◌, List, [], ◌∷◌, Option, Some, None, IsNone, IfSome, slice_get, arith}
-use Rattle.std.proofs.Math.Nat.{suc-ne-zero}
 use Rattle.std.proofs.lemmas.Nat.{pow_below}
 use Rattle.circuit_model.specs.declared.model.Primitive.{Primitive}
 use Rattle.circuit_model.specs.Inference.{IsTuple, Matches, IsUsed, IsInference}
 use Rattle.component_models.specs.Tables.{forced_by_two}
 use Rattle.component_models.proofs.Ports.{Known, Forced, Free, not_refuted}
-use Rattle.component_models.proofs.Functions.{IsFunction, differ_at}
+use Rattle.component_models.proofs.Functions.{IsFunction, zero_ne_one, differ_at}
 
 -- f is undone, and g z a is the word that f takes with a to z
 pub record IsLatin (w : ℕ) (f g : ℕ → ℕ → ℕ) : Type 0 where
@@ -14,9 +13,6 @@ pub record IsLatin (w : ℕ) (f g : ℕ → ℕ → ℕ) : Type 0 where
   pub exchanged : (a b : ℕ) → f a b ≡ f b a
   pub there : (z a : ℕ) → z < 2 ^ w → a < 2 ^ w → f a (g z a) ≡ z
   pub back : (a b : ℕ) → a < 2 ^ w → b < 2 ^ w → g (f a b) a ≡ b
-
-zero_ne_one : ◌≢◌ {A = ℕ} 0 1
-zero_ne_one e = suc-ne-zero 0 (sym e)
 
 module _ (prim : Primitive) (used : (known : List (Option ℕ)) → IsUsed prim known) (w : ℕ) (low : 1 ≤ w) (f g : ℕ → ℕ → ℕ) (is : IsFunction prim w w w f) (latin : IsLatin w f g) where
   abbrev ws : List ℕ

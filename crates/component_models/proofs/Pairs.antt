@@ -1,13 +1,12 @@
 -- Primitives of two ports, each of whose words determines the other.
 use Rattle.std.proofs.Common.{◌≡◌, ◌≢◌, ℕ, ◌^◌, ◌<◌, ◌≤◌, ◌⊎◌, inl, inr, false, refl, sym, ap, subst, ◌∙◌, List, [], ◌∷◌, Option, Some, None, IsNone, IfSome, slice_get, arith}
 use Rattle.std.specs.Option.{option_map}
-use Rattle.std.proofs.Math.Nat.{suc-ne-zero}
 use Rattle.std.proofs.lemmas.Nat.{pow_below}
 use Rattle.circuit_model.specs.declared.model.Primitive.{Primitive}
 use Rattle.circuit_model.specs.declared.model.Primitive.TheVariants.{Buf, Not}
 use Rattle.circuit_model.specs.Inference.{IsTuple, Matches, IsUsed, IsInference}
 use Rattle.component_models.proofs.Ports.{Known, Forced, Free, Absent, not_refuted}
-use Rattle.component_models.proofs.Functions.{differ_at}
+use Rattle.component_models.proofs.Functions.{zero_ne_one, differ_at}
 use Rattle.component_models.proofs.Complements.{complement_of, complement-lt, complement-complement}
 
 -- the tuples of the primitive are two words, each the turn of the other
@@ -39,9 +38,6 @@ module _ (prim : Primitive) (w : ℕ) (low : 1 ≤ w) (turn : ℕ → ℕ) (is :
 
   no_third : (t : List ℕ) → IsTuple prim ws t → slice_get t 2 ≡ None
   no_third = is.by_words (λ t. slice_get t 2 ≡ None) (λ a z pa pz e. refl)
-
-  zero_ne_one : ◌≢◌ {A = ℕ} 0 1
-  zero_ne_one e = suc-ne-zero 0 (sym e)
 
   turns_differ : turn 0 ≢ turn 1
   turns_differ e = zero_ne_one (sym (is.twice 0 none) ∙ ap turn e ∙ is.twice 1 one)

@@ -12,7 +12,8 @@ use crate::sums::infer_sum;
 use circuit_model::Prim;
 use word_domain::Width;
 
-/// Whether the known words refute a primitive, and the word that they force at each place.
+/// What known words say of a primitive. A place has `None` where no word is forced, which is so
+/// at each port with a known word and past the ports.
 #[derive(Clone, Copy, PartialEq, Eq, Debug)]
 pub struct Inference {
     pub refuted: bool,
