@@ -9,8 +9,9 @@ use crate::model::{Cell, Instance, Kind, Part, Primitive};
 use std::alloc::{AllocError, Global};
 use word_domain::Width;
 
-/// The instances that a component of the kind stands for, at these nets of these widths. Unused places of `nets` and
-/// of `widths` repeat the last port's. There are 1 to 16 cycles.
+/// The instances that a component of the kind stands for over so many cycles, at these nets of these widths, both in the
+/// order of the kind's ports. Unused places of `nets` and of `widths` repeat the last port's. A refusal leaves nothing
+/// behind.
 pub fn instances_of(
     alloc: Global,
     kind: Kind,

@@ -7,14 +7,14 @@ use std::alloc::{AllocError, Global};
 use std::marker::Model;
 use word_domain::Width;
 
-/// A net at a cycle. Cells go by net, then by cycle.
+/// A net, by its place in order of declaration, at a cycle, counted from 0. Cells go by net, then by cycle.
 #[derive(Clone, Copy, PartialEq, Eq, PartialOrd, Ord, Debug)]
 pub struct Cell {
     pub net: u16,
     pub cycle: u8,
 }
 
-/// A word at a cell.
+/// A word at a cell. The word is below two to the width of the cell's net, which is at most 32.
 #[derive(Clone, Copy, PartialEq, Eq, Debug)]
 pub struct Fact {
     pub cell: Cell,
@@ -54,7 +54,8 @@ pub enum Kind {
     Reg { reset: u64 },
 }
 
-/// A relation between the words at some cells.
+/// A relation between the words at some cells, in the order of the relation's ports. There are 1 to 3 ports; unused
+/// places of `cells` and `widths` repeat the last port's.
 #[derive(Clone, Copy, PartialEq, Eq, Debug)]
 pub struct Instance {
     pub prim: Primitive,
@@ -63,7 +64,8 @@ pub struct Instance {
     pub widths: [Width; 3],
 }
 
-/// The relations that a component stands for.
+/// The relations that a component stands for, in order of cycles. Contracts see it as their list. Each one is lawful:
+/// `ports` is the number of ports of its relation, its widths go together, and the value of a constant fits.
 #[derive(Drop)]
 pub struct Part {
     instances: Vec<Instance>,
@@ -98,7 +100,7 @@ impl Part {
         self.instances.len()
     }
 
-    /// A part with the same instances.
+    /// A part with the same instances. A refusal leaves nothing behind.
     pub fn copy(&self, alloc: Global) -> Result<Part, AllocError>
         ensures { IfOk result (λ p. p ≡ self.now) }
     {
@@ -116,7 +118,7 @@ impl Part {
     }
 }
 
-/// What may be assumed: that a component works, or that a cell was seen to have a word.
+/// What may be assumed (de Kleer 1986): that a component works in all cycles, or that a cell was seen to have a word.
 #[derive(Drop)]
 pub enum Assumption {
     Part(Part),

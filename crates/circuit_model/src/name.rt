@@ -35,7 +35,7 @@ impl Model for Name {
 }
 
 impl Name {
-    /// The name with these bytes, if they are one.
+    /// The name with these bytes, if they are one. It takes no memory.
     pub fn new(bytes: &[u8]) -> Option<Name>
         ensures { result ≡ (if is_name bytes.now then Some bytes.now else None) }
     {
@@ -46,7 +46,7 @@ impl Name {
         }
     }
 
-    /// Its bytes.
+    /// Its bytes, 1 to 32 of them.
     pub fn bytes(&self) -> &[u8]
         ensures bytes { result.now ≡ self.now }
         ensures name { IsTrue (is_name self.now) }

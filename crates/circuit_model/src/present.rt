@@ -63,7 +63,7 @@ impl Model for Present {
 }
 
 impl Present {
-    /// One cycle, no nets, no components and no measurements. The room for measurements is taken here.
+    /// One cycle, no nets, no components and no measurements. The room for all measurements is taken here.
     pub fn open(alloc: Global) -> Result<Present, AllocError>
         ensures { IfOk result (λ p. p ≡ empty_setup) }
     {
@@ -75,7 +75,7 @@ impl Present {
         })
     }
 
-    /// The number of cycles.
+    /// The number of cycles, 1 to 16.
     pub fn cycles(&self) -> u8
         ensures value { result ≡ self.now.cycles }
         ensures lawful { IsLawful self.now }
@@ -83,7 +83,7 @@ impl Present {
         self.cycles
     }
 
-    /// The number of nets.
+    /// The number of nets, at most 256.
     pub fn nets(&self) -> u16
         ensures value { result ≡ length self.now.nets }
         ensures lawful { IsLawful self.now }
@@ -91,7 +91,7 @@ impl Present {
         self.nets.len() as u16
     }
 
-    /// A net by its place.
+    /// The name and the width of a net, by its place in order of declaration.
     pub fn net_at(&self, place: u16) -> (Name, Width)
         requires { place < length self.now.nets }
         ensures { slice_get self.now.nets place ≡ Some (record { name = result.0; width = result.1 }) }
@@ -100,7 +100,7 @@ impl Present {
         (net.name, net.width)
     }
 
-    /// What has the name.
+    /// What has the name: nets and components share one set of names.
     pub fn find(&self, name: &Name) -> Option<Named>
         ensures { result ≡ named_in self.now name.now }
     {
@@ -110,7 +110,7 @@ impl Present {
         }
     }
 
-    /// The number of components.
+    /// The number of components, at most 64.
     pub fn parts(&self) -> u16
         ensures value { result ≡ length self.now.parts }
         ensures lawful { IsLawful self.now }
@@ -118,7 +118,7 @@ impl Present {
         self.parts.len() as u16
     }
 
-    /// A component by its place.
+    /// A component by its place in order of declaration.
     pub fn part_at(&self, place: u16) -> &Component
         requires { place < length self.now.parts }
         ensures { slice_get self.now.parts place ≡ Some result.now }
@@ -133,7 +133,7 @@ impl Present {
         reading_of(&self.readings, cell)
     }
 
-    /// The number of standing measurements.
+    /// The number of standing measurements, at most 64.
     pub fn readings(&self) -> u16
         ensures value { result ≡ length self.now.readings }
         ensures lawful { IsLawful self.now }
@@ -149,7 +149,7 @@ impl Present {
         self.readings[place as usize]
     }
 
-    /// Declares a net.
+    /// Declares a net, after the others. A refusal changes nothing.
     pub fn add_net(&mut self, name: Name, width: Width) -> Result<(), AllocError>
         requires free { named_in self.old name ≡ None }
         requires room { length self.old.nets < MOST_NETS }
@@ -162,7 +162,7 @@ impl Present {
         Ok(())
     }
 
-    /// Declares a component.
+    /// Declares a component, after the others. A refusal changes nothing; the component is dropped.
     pub fn add_part(&mut self, component: Component) -> Result<(), AllocError>
         requires free { named_in self.old component.name ≡ None }
         requires room { length self.old.parts < MOST_PARTS }
@@ -175,7 +175,8 @@ impl Present {
         Ok(())
     }
 
-    /// Puts a measurement among the standing ones. The room for it was taken when the present was opened.
+    /// Puts a measurement among the standing ones, in order of cells. It takes no memory: the room was taken when the
+    /// present was opened.
     pub fn set_reading(&mut self, fact: Fact)
         requires fact { IsFactOf self.old fact }
         requires free { reading_in self.old.readings fact.cell ≡ None }
