@@ -1,15 +1,15 @@
 -- Changes of antichains.
-use Rattle.std.proofs.Common.{◌≡◌, ◌≢◌, ℕ, ◌⊎◌, inl, inr, Bool, true, false, not, IsTrue, ◌||◌, ◌↔◌, true≢false, refl, sym, ap, subst, ◌∙◌, List, [], ◌∷◌, ◌++◌, map}
+use Rattle.std.proofs.Common.{◌≡◌, ℕ, ◌⊎◌, inl, inr, Bool, true, false, not, IsTrue, ◌||◌, ◌↔◌, true≢false, refl, sym, ap, subst, ◌∙◌, List, [], ◌∷◌, ◌++◌}
 use Rattle.std.proofs.lemmas.List.{map-append}
 use Rattle.std.specs.List.{filter, list_any}
 use Rattle.environment_sets.specs.declared.environment.Env.{Env}
 use Rattle.environment_sets.specs.declared.environment.TheConstants.{SLOTS}
 use Rattle.environment_sets.specs.Sets.{Set, ◌⊆◌, is_within}
 use Rattle.environment_sets.specs.Members.{members, sets}
-use Rattle.environment_sets.specs.Lists.{IsIn, IsRising}
+use Rattle.environment_sets.specs.Lists.{IsIn}
 use Rattle.environment_sets.proofs.Listings.{IsIn-push, IsIn-front, IsIn-last, IsRising-push, IsIn-filter, IsIn-kept, IsRising-filter, map-filter}
 use Rattle.environment_sets.proofs.Slots.{slots_are_below}
-use Rattle.environment_sets.proofs.Within.{within_holds, holds_within, is_within_test}
+use Rattle.environment_sets.proofs.Within.{within_holds, holds_within}
 use Rattle.antichains.specs.Families.{Covers, AreApart, IsAntichain, Adds, Drops}
 
 -- the test that a set does not contain the environment

@@ -6,7 +6,7 @@ use Rattle.environment_sets.specs.declared.environment.Env.{Env}
 use Rattle.environment_sets.specs.Members.{members, sets, HasMember}
 use Rattle.environment_sets.specs.Sets.{Set, ◌⊆◌}
 use Rattle.environment_sets.specs.Lists.{IsIn}
-use Rattle.environment_sets.specs.Orders.{ComesBefore, Lists}
+use Rattle.environment_sets.specs.Orders.{ComesBefore, ListsAll}
 use Rattle.environment_sets.specs.Walks.{ComesAfter, IsFurther, IsNext, GivesNext, count_left}
 use Rattle.environment_sets.proofs.Listings.{IsIn-push, IsIn-front, IsIn-last}
 use Rattle.environment_sets.proofs.OrderLaws.{order_is_transitive, order_is_total}
@@ -42,7 +42,7 @@ module _ {N : Type 0} (order : List N) (mask : Set N) (last : Option (Set N)) wh
       }
 
   -- of a further set and the next one that was found before, the first is the next one
-  pub GivesNext-first : (Es : List (Set N)) (M : Set N) (next : Option (Set N)) (R : Set N) → Lists order mask → M ⊆ mask → ComesAfter order last M → GivesNext order (IsIn Es) mask last next → IsFirstOf order next M R → GivesNext order (IsIn (Es ++ M ∷ [])) mask last (Some R)
+  pub GivesNext-first : (Es : List (Set N)) (M : Set N) (next : Option (Set N)) (R : Set N) → ListsAll order mask → M ⊆ mask → ComesAfter order last M → GivesNext order (IsIn Es) mask last next → IsFirstOf order next M R → GivesNext order (IsIn (Es ++ M ∷ [])) mask last (Some R)
   GivesNext-first Es M None R listed inside after none is =
       subst (λ (G : Set N). IsNext order (IsIn (Es ++ M ∷ [])) mask last G) (sym is) (record {
         further = record { member = IsIn-last Es M M refl; inside = inside; after = after };
@@ -81,13 +81,13 @@ module _ (order : List ℕ) (mask : Set ℕ) (last : Option (Set ℕ)) (es : Lis
       let P : List (Set ℕ) → Type 0 = λ Es. GivesNext order (IsIn Es) mask last next in
       subst P (sym (sets_take es i e low is)) (GivesNext-stays order mask last (sets (take i es)) (members e) next out gives)
 
-  pub next_first : (next : Option (Set ℕ)) (R : Set ℕ) → Lists order mask → (members e ⊆ mask) × ComesAfter order last (members e) → IsFirstOf order next (members e) R → Gives i next → Gives (i + 1) (Some R)
+  pub next_first : (next : Option (Set ℕ)) (R : Set ℕ) → ListsAll order mask → (members e ⊆ mask) × ComesAfter order last (members e) → IsFirstOf order next (members e) R → Gives i next → Gives (i + 1) (Some R)
   next_first next R listed (inside, after) first gives =
       let P : List (Set ℕ) → Type 0 = λ Es. GivesNext order (IsIn Es) mask last (Some R) in
       subst P (sym (sets_take es i e low is)) (GivesNext-first order mask last (sets (take i es)) (members e) next R listed inside after gives first)
 
 -- what was found is inside the mask
-pub found_listed : (order : List ℕ) (Family : Set ℕ → Type 0) (mask : Set ℕ) (last : Option (Set ℕ)) (next : Option Env) → Lists order mask → GivesNext order Family mask last (option_map members next) → (x : Env) → next ≡ Some x → Lists order (members x)
+pub found_listed : (order : List ℕ) (Family : Set ℕ → Type 0) (mask : Set ℕ) (last : Option (Set ℕ)) (next : Option Env) → ListsAll order mask → GivesNext order Family mask last (option_map members next) → (x : Env) → next ≡ Some x → ListsAll order (members x)
 found_listed order Family mask last next listed gives x e =
     let P : Option Env → Type 0 = λ n. GivesNext order Family mask last (option_map members n) in
     let found : IsNext order Family mask last (members x) = subst P e gives in

@@ -3,8 +3,8 @@ ghost use Rattle.std.specs.Prelude.{◌≡◌, ◌<◌, ◌↔◌, IsTrue, IfOk,
 ghost use Rattle.std.specs.Option.{ForSome, option_map, option_copied};
 ghost use Rattle.environment_sets.specs.Sets.{◌⊆◌};
 ghost use Rattle.environment_sets.specs.Members.{members, sets, HasMember};
-ghost use Rattle.environment_sets.specs.Orders.{Lists, IsOrder};
-ghost use Rattle.environment_sets.specs.Walks.{ComesAfter, GivesNext, count_left};
+ghost use Rattle.environment_sets.specs.Orders.{ListsAll, IsOrder};
+ghost use Rattle.environment_sets.specs.Walks.{ComesAfter, GivesNextEnv, envs_left};
 ghost use Rattle.antichains.specs.Families.{Covers, Adds, Drops, IsAntichain};
 ghost use Rattle.antichains.specs.Nearest.{IsFirstOf};
 
@@ -106,10 +106,10 @@ impl Antichain {
     /// are left falls from call to call.
     pub fn next_after(&self, order: &[u16], mask: &Env, last: Option<&Env>) -> Option<Env>
         requires slots { IsOrder SLOTS order.now }
-        requires mask_listed { Lists order.now (members mask.now) }
-        requires last_listed { ForSome last (λ l. Lists order.now (members l.now)) }
-        ensures next { GivesNext order.now (HasMember self.now) (members mask.now) (option_map members (option_copied last.entry)) (option_map members result) }
-        ensures falls { IfSome result (λ e. count_left SLOTS order.now (members mask.now) (Some (members e)) (sets self.now) < count_left SLOTS order.now (members mask.now) (option_map members (option_copied last.entry)) (sets self.now)) }
+        requires mask_listed { ListsAll order.now (members mask.now) }
+        requires last_listed { ForSome last (λ l. ListsAll order.now (members l.now)) }
+        ensures next { GivesNextEnv order.now self.now mask.now (option_copied last.entry) result }
+        ensures falls { IfSome result (λ e. envs_left order.now self.now mask.now (Some e) < envs_left order.now self.now mask.now (option_copied last.entry)) }
     {
         let mut next = None;
         for member in &self.list {
@@ -134,8 +134,8 @@ impl Antichain {
 // Whether the member is inside the mask and comes after the last.
 fn is_further(order: &[u16], mask: &Env, last: Option<&Env>, member: &Env) -> bool
     requires slots { IsOrder SLOTS order.now }
-    requires mask_listed { Lists order.now (members mask.now) }
-    requires last_listed { ForSome last (λ l. Lists order.now (members l.now)) }
+    requires mask_listed { ListsAll order.now (members mask.now) }
+    requires last_listed { ForSome last (λ l. ListsAll order.now (members l.now)) }
     ensures { IsTrue result ↔ ((members member.now ⊆ members mask.now) × ComesAfter order.now (option_map members (option_copied last.entry)) (members member.now)) }
 {
     if !member.is_subset(mask) {
@@ -150,8 +150,8 @@ fn is_further(order: &[u16], mask: &Env, last: Option<&Env>, member: &Env) -> bo
 // What was found before, or the member where that comes first.
 fn first_of(order: &[u16], found: Option<Env>, member: Env) -> Env
     requires slots { IsOrder SLOTS order.now }
-    requires found_listed { ForSome found (λ e. Lists order.now (members e)) }
-    requires listed { Lists order.now (members member) }
+    requires found_listed { ForSome found (λ e. ListsAll order.now (members e)) }
+    requires listed { ListsAll order.now (members member) }
     ensures { IsFirstOf order.now (option_map members found) (members member) (members result) }
 {
     match found {

@@ -1,7 +1,7 @@
 -- Hitting sets of no sets.
-use Rattle.std.proofs.Common.{◌≡◌, ℕ, false, IsTrue, true≢false, sym, ap, subst, ◌∙◌}
+use Rattle.std.proofs.Common.{true≢false, sym, subst}
 use mathlib.Core.Path.{fun_ext}
-use Rattle.environment_sets.specs.Sets.{Set, no_elements, ◌⊆◌, IsMinimalHittingSet}
+use Rattle.environment_sets.specs.Sets.{no_elements, IsMinimalHittingSet}
 use Rattle.environment_sets.specs.Laws.{NoneIsHitByNone}
 use Rattle.environment_sets.proofs.Sizes.{not_true}
 

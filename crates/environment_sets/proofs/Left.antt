@@ -1,9 +1,9 @@
 -- Fewer are left after each step of a walk.
-use Rattle.std.proofs.Common.{◌≡◌, ℕ, ◌+◌, ◌<◌, ◌≤◌, ◌⊎◌, inl, inr, Bool, true, false, ◌&&◌, cond, IsTrue, true≢false, Option, Some, None, Ordering, Less, Equal, Greater, List, [], ◌∷◌, refl, sym, ap, ◌∙◌, arith}
+use Rattle.std.proofs.Common.{◌≡◌, ℕ, ◌+◌, ◌<◌, ◌≤◌, inl, inr, Bool, true, false, ◌&&◌, cond, IsTrue, true≢false, Option, Some, None, Ordering, Less, Equal, Greater, List, [], ◌∷◌, refl, sym, ap, ◌∙◌, arith}
 use Rattle.std.specs.List.{count_by}
 use Rattle.std.specs.Ordering.{is_lt}
 use Rattle.std.proofs.lemmas.List.Sums.{sum_by-cons}
-use Rattle.environment_sets.specs.Sets.{Set, ◌⊆◌, is_within}
+use Rattle.environment_sets.specs.Sets.{Set, is_within}
 use Rattle.environment_sets.specs.Lists.{IsIn}
 use Rattle.environment_sets.specs.Orders.{compare_in, ComesBefore}
 use Rattle.environment_sets.specs.Walks.{ComesAfter, IsFurther, is_after, count_left}

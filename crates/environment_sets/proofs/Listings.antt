@@ -1,7 +1,7 @@
 -- Lists of exactly what has a property.
 use Rattle.std.proofs.Common.{◌≡◌, ℕ, zero, suc, ◌<◌, ◌⊎◌, inl, inr, Bool, true, false, cond, IsTrue, true≢false, List, [], ◌∷◌, ◌++◌, length, get_or, map, refl, sym, ap, ap₂, subst, ◌∙◌, arith}
 use Rattle.std.specs.List.{filter}
-use Rattle.environment_sets.specs.Lists.{IsIn, IsRising, AreDistinct, IsStrict, IsListing}
+use Rattle.environment_sets.specs.Lists.{IsIn, IsRising, IsStrict, IsListing}
 
 module _ {X : Type 0} where
   pub IsIn-get_or : (xs : List X) (i : ℕ) (d : X) → i < length xs → IsIn xs (get_or xs i d)
@@ -55,11 +55,10 @@ module _ {X : Type 0} where
 
   pub IsRising-push : (before : X → X → Type 0) (xs : List X) (y : X) → IsRising before xs → ((x : X) → IsIn xs x → before x y) → IsRising before (xs ++ y ∷ [])
   IsRising-push before [] y r last = (λ x h. absurd h, tt)
-  IsRising-push before (z ∷ zs) y r last =
-      (
-        λ x h. elim (IsIn-push zs y x h) [ inl k ↦ r.0 x k | inr e ↦ subst (before z) e (last z (inl refl)) ],
-        IsRising-push before zs y r.1 (λ x h. last x (inr h)),
-      )
+  IsRising-push before (z ∷ zs) y r last = (
+    λ x h. elim (IsIn-push zs y x h) [ inl k ↦ r.0 x k | inr e ↦ subst (before z) e (last z (inl refl)) ],
+    IsRising-push before zs y r.1 (λ x h. last x (inr h)),
+  )
 
   -- what is left of a list by a test
   module _ (test : X → Bool) where

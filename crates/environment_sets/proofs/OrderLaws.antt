@@ -1,12 +1,12 @@
 -- The order of sets is an order.
-use Rattle.std.proofs.Common.{◌≡◌, ℕ, ◌<◌, ◌≤◌, ◌+◌, length, drop, get_or, add-one, drop-cons, Bool, true, false, not, ◌&&◌, if◌then◌else◌, ◌⊎◌, inl, inr, IsTrue, true≢false, refl, sym, ap, ap₂, ◌∙◌, List, [], ◌∷◌, nat_cmp, arith, Ordering, Less, Equal, Greater}
+use Rattle.std.proofs.Common.{◌≡◌, ℕ, ◌<◌, ◌≤◌, ◌+◌, length, drop, get_or, add-one, drop-cons, Bool, true, false, not, ◌&&◌, if◌then◌else◌, ◌⊎◌, inl, inr, true≢false, refl, sym, ap, ap₂, ◌∙◌, List, [], ◌∷◌, nat_cmp, arith, Ordering, Less, Equal, Greater}
 use Rattle.std.specs.List.{count_by}
 use Rattle.std.proofs.lemmas.Bool.Decides.{nat_tests}
 use Rattle.std.proofs.lemmas.List.{drop_all}
 use mathlib.Core.Path.{fun_ext}
 use Rattle.environment_sets.specs.Sets.{Set, IsBelow, size_below}
 use Rattle.environment_sets.specs.Lists.{IsIn}
-use Rattle.environment_sets.specs.Orders.{first_of_both, by_first, compare_in, ComesBefore, Lists, IsOrder}
+use Rattle.environment_sets.specs.Orders.{first_of_both, by_first, compare_in, ComesBefore, ListsAll, IsOrder}
 use Rattle.environment_sets.specs.Laws.{OrderIsStrict, OrderIsTransitive, EqualSetsAreSame, OrderIsTotal, ListingsAreUnique}
 use Rattle.environment_sets.proofs.Sizes.{not_true, sizes_are_counts}
 use Rattle.environment_sets.proofs.Listings.{same_listing}
@@ -74,7 +74,7 @@ module _ {N : Type 0} where
   by_first-turned (k ∷ order) E F e = at_name-turned (E k) (F k) _ _ e (by_first-turned order E F)
 
   -- sets that agree on the names are the same, where the names list them
-  same_sets : (order : List N) (E F : Set N) → Lists order E → Lists order F → ((k : N) → IsIn order k → E k ≡ F k) → E ≡ F
+  same_sets : (order : List N) (E F : Set N) → ListsAll order E → ListsAll order F → ((k : N) → IsIn order k → E k ≡ F k) → E ≡ F
   same_sets order E F all others agree =
       fun_ext (λ k. elim (E k) as (λ b. E k ≡ b → E k ≡ F k) [
         | true ↦ λ is. agree k (all k is)
@@ -89,7 +89,7 @@ pub by_first-past : (order : List ℕ) (E F : Set ℕ) (i : ℕ) → length orde
 by_first-past order E F i high = rw (drop_all i order high) refl
 
 -- the sizes may be counted by any order that lists both
-pub compare_in-sizes : (n : ℕ) (order : List ℕ) (E F : Set ℕ) → IsOrder n order → Lists order E → Lists order F → IsBelow n E → IsBelow n F → compare_in order E F ≡ first_of_both (nat_cmp (size_below n E) (size_below n F)) (by_first order E F)
+pub compare_in-sizes : (n : ℕ) (order : List ℕ) (E F : Set ℕ) → IsOrder n order → ListsAll order E → ListsAll order F → IsBelow n E → IsBelow n F → compare_in order E F ≡ first_of_both (nat_cmp (size_below n E) (size_below n F)) (by_first order E F)
 compare_in-sizes n order E F is all others low lower =
     ap₂ (λ l m. first_of_both (nat_cmp l m) (by_first order E F)) (sizes_are_counts n E order low is.distinct all) (sizes_are_counts n F order lower is.distinct others)
 

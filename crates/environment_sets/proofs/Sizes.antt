@@ -1,11 +1,10 @@
 -- How many elements a set has.
-use Rattle.std.proofs.Common.{◌≡◌, ◌≢◌, ℕ, zero, suc, ◌+◌, ◌<◌, ◌≤◌, ◌⊎◌, inl, inr, Bool, true, false, not, ◌&&◌, ◌==◌, cond, IsTrue, true≢false, refl, sym, ap, ap₂, ◌∙◌, List, [], ◌∷◌, arith, add-one, zero-add}
+use Rattle.std.proofs.Common.{◌≡◌, ◌≢◌, ℕ, zero, suc, ◌+◌, ◌<◌, ◌⊎◌, inl, inr, Bool, true, false, not, ◌&&◌, ◌==◌, cond, IsTrue, true≢false, refl, sym, ap, ap₂, ◌∙◌, List, [], ◌∷◌, arith, add-one, zero-add}
 use Rattle.std.specs.List.{count_by}
 use Rattle.std.proofs.lemmas.Bool.Decides.{nat_tests}
 use Rattle.std.proofs.lemmas.List.Sums.{sum_by-cons}
-use Rattle.environment_sets.specs.Sets.{Set, size_below, IsBelow, only, ◌∖◌}
-use Rattle.environment_sets.specs.Lists.{IsIn, AreDistinct}
-use Rattle.environment_sets.specs.Orders.{Lists}
+use Rattle.environment_sets.specs.Sets.{Set, size_below, only, ◌∖◌}
+use Rattle.environment_sets.specs.Lists.{IsIn}
 use Rattle.environment_sets.specs.Laws.{SizesAreCounts}
 
 pub not_true : (b : Bool) → (IsTrue b → ⊥) → b ≡ false

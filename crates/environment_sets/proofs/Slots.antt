@@ -1,5 +1,5 @@
 -- Sets of places of a list of truth values.
-use Rattle.std.proofs.Common.{◌≡◌, ◌≢◌, ℕ, zero, suc, ◌+◌, ◌<◌, ◌≤◌, ◌⊎◌, inl, inr, Bool, true, false, not, ◌&&◌, ◌||◌, ◌==◌, IsTrue, true≢false, refl, sym, ap, ◌∙◌, List, [], ◌∷◌, length, get_or, set, replicate, arith, add-one, get_or-set_same, get_or-set_other, length-set, below_more}
+use Rattle.std.proofs.Common.{◌≡◌, ◌≢◌, ℕ, ◌+◌, ◌<◌, ◌≤◌, ◌⊎◌, inl, inr, Bool, true, false, not, ◌&&◌, ◌||◌, ◌==◌, true≢false, refl, sym, ap, ◌∙◌, List, length, get_or, set, replicate, arith, get_or-set_same, get_or-set_other, length-set, below_more}
 use Rattle.std.proofs.lemmas.Bool.Decides.{nat_tests}
 use Rattle.std.proofs.lemmas.List.{get_or-replicate, get_or_past, get_or_default, same_lists, length-replicate}
 use mathlib.Core.Path.{fun_ext}

@@ -1,11 +1,11 @@
 -- A walk lists what it goes through.
-use Rattle.std.proofs.Common.{◌≡◌, ◌⊎◌, inl, inr, Option, Some, None, List, [], ◌∷◌, ◌++◌, sym, subst}
-use Rattle.environment_sets.specs.Sets.{Set, ◌⊆◌}
+use Rattle.std.proofs.Common.{inl, inr, Option, Some, None, List, [], ◌∷◌, subst}
+use Rattle.environment_sets.specs.Sets.{Set}
 use Rattle.environment_sets.specs.Lists.{IsIn, IsListing}
 use Rattle.environment_sets.specs.Orders.{ComesBefore}
-use Rattle.environment_sets.specs.Walks.{ComesAfter, IsFurther, IsNext, GivesNext, IsWalk}
+use Rattle.environment_sets.specs.Walks.{ComesAfter, IsFurther, IsWalk}
 use Rattle.environment_sets.specs.Laws.{WalksListAll}
-use Rattle.environment_sets.proofs.OrderLaws.{order_is_strict, order_is_transitive, order_is_total}
+use Rattle.environment_sets.proofs.OrderLaws.{order_is_transitive}
 
 module _ {N : Type 0} (order : List N) where
   ComesAfter-along : (last : Option (Set N)) (E F : Set N) → ComesAfter order last E → ComesBefore order E F → ComesAfter order last F

@@ -1,5 +1,5 @@
 -- What the test of a subset says.
-use Rattle.std.proofs.Common.{◌≡◌, ℕ, zero, suc, ◌+◌, ◌<◌, ◌⊎◌, inl, inr, Bool, true, false, not, ◌&&◌, ◌==◌, cond, IsTrue, true≢false, refl, sym, ap, ◌∙◌, arith}
+use Rattle.std.proofs.Common.{◌≡◌, ℕ, zero, suc, ◌+◌, ◌<◌, inl, inr, Bool, true, false, not, ◌&&◌, cond, IsTrue, true≢false, refl, sym, ap, ◌∙◌, arith}
 use Rattle.std.proofs.lemmas.Bool.Decides.{nat_tests}
 use Rattle.environment_sets.specs.Sets.{Set, ◌⊆◌, ◌∖◌, IsBelow, size_below, is_within}
 use Rattle.environment_sets.proofs.Sizes.{not_true, size_below-none, last_or_lower}

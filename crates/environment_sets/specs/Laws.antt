@@ -7,7 +7,7 @@ use Rattle.environment_sets.specs.declared.environment.TheConstants.{SLOTS}
 use Rattle.environment_sets.specs.Sets.{Set, no_elements, ◌⊆◌, IsBelow, size_below, IsMinimalHittingSet}
 use Rattle.environment_sets.specs.Members.{members}
 use Rattle.environment_sets.specs.Lists.{IsIn, IsRising, IsStrict, AreDistinct, IsListing}
-use Rattle.environment_sets.specs.Orders.{Lists, compare_in, ComesBefore}
+use Rattle.environment_sets.specs.Orders.{ListsAll, compare_in, ComesBefore}
 use Rattle.environment_sets.specs.Walks.{IsWalk}
 
 -- each slot of an environment is below the bound
@@ -20,7 +20,7 @@ SameSlotsAreEqual = (e f : Env) → members e ≡ members f → e ≡ f
 
 -- as many names of a list of distinct names, which lists all of the set, are in the set as the set has elements
 abbrev pub SizesAreCounts : Type 0
-SizesAreCounts = (n : ℕ) (E : Set ℕ) (order : List ℕ) → IsBelow n E → AreDistinct order → Lists order E → count_by E order ≡ size_below n E
+SizesAreCounts = (n : ℕ) (E : Set ℕ) (order : List ℕ) → IsBelow n E → AreDistinct order → ListsAll order E → count_by E order ≡ size_below n E
 
 -- no set is hit in vain: of no sets the one minimal hitting set is the empty one
 abbrev pub NoneIsHitByNone : Type 0
@@ -36,11 +36,11 @@ module _ (N : Type 0) where
 
   -- sets that compare equal have the same elements, where the order lists them
   abbrev pub EqualSetsAreSame : Type 0
-  EqualSetsAreSame = (order : List N) (E F : Set N) → Lists order E → Lists order F → compare_in order E F ≡ Equal → E ≡ F
+  EqualSetsAreSame = (order : List N) (E F : Set N) → ListsAll order E → ListsAll order F → compare_in order E F ≡ Equal → E ≡ F
 
   -- of two sets that the order lists, one comes before the other, unless they are the same
   abbrev pub OrderIsTotal : Type 0
-  OrderIsTotal = (order : List N) (E F : Set N) → Lists order E → Lists order F → ComesBefore order E F ⊎ ((E ≡ F) ⊎ ComesBefore order F E)
+  OrderIsTotal = (order : List N) (E F : Set N) → ListsAll order E → ListsAll order F → ComesBefore order E F ⊎ ((E ≡ F) ⊎ ComesBefore order F E)
 
   -- a listing of the sets of a rising list is that list, so the sets with a property have one listing
   abbrev pub ListingsAreUnique : Type 0

@@ -26,8 +26,8 @@ module _ {N : Type 0} where
   ComesBefore order E F = compare_in order E F ≡ Less
 
   -- each element of the set is one of the names
-  abbrev pub Lists : List N → Set N → Type 0
-  Lists order E = (k : N) → IsTrue (E k) → IsIn order k
+  abbrev pub ListsAll : List N → Set N → Type 0
+  ListsAll order E = (k : N) → IsTrue (E k) → IsIn order k
 
 -- distinct numbers below n
 pub record IsOrder (n : ℕ) (order : List ℕ) : Type 0 where

@@ -1,9 +1,12 @@
 -- Walks through sets in order, from each to the next.
 use Rattle.std.specs.Prelude.{◌≡◌, ◌⊎◌, ℕ, Bool, true, ◌&&◌, Option, Some, None, List, [], ◌∷◌}
 use Rattle.std.specs.List.{count_by}
+use Rattle.std.specs.Option.{option_map}
 use Rattle.std.specs.Ordering.{is_lt}
+use Rattle.environment_sets.specs.declared.environment.Env.{Env}
+use Rattle.environment_sets.specs.declared.environment.TheConstants.{SLOTS}
 use Rattle.environment_sets.specs.Sets.{Set, ◌⊆◌, is_within}
-use Rattle.environment_sets.specs.Lists.{IsIn, IsListing}
+use Rattle.environment_sets.specs.Members.{members, sets, HasMember}
 use Rattle.environment_sets.specs.Orders.{compare_in, ComesBefore}
 
 module _ {N : Type 0} where
@@ -40,3 +43,11 @@ module _ {N : Type 0} where
 -- how many of the sets, of numbers below n, are inside the mask and come after the last
 abbrev pub count_left : ℕ → List ℕ → Set ℕ → Option (Set ℕ) → List (Set ℕ) → ℕ
 count_left n order mask last Es = count_by (λ E. is_within n E mask && is_after order last E) Es
+
+-- the answer is the next of the environments inside the mask
+abbrev pub GivesNextEnv : List ℕ → List Env → Env → Option Env → Option Env → Type 0
+GivesNextEnv order es mask last next = GivesNext order (HasMember es) (members mask) (option_map members last) (option_map members next)
+
+-- how many of the environments are inside the mask and come after the last
+abbrev pub envs_left : List ℕ → List Env → Env → Option Env → ℕ
+envs_left order es mask last = count_left SLOTS order (members mask) (option_map members last) (sets es)

@@ -21,7 +21,7 @@ impl Env {
     ghost use Rattle.environment_sets.specs.Sets.{no_elements, only, size_below, is_within, ◌∪◌, ◌∩◌, ◌∖◌, ◌⊆◌};
     ghost use Rattle.environment_sets.specs.Members.{members};
     ghost use Rattle.environment_sets.specs.Lists.{IsIn};
-    ghost use Rattle.environment_sets.specs.Orders.{compare_in, by_first, Lists, IsOrder};
+    ghost use Rattle.environment_sets.specs.Orders.{compare_in, by_first, ListsAll, IsOrder};
 
     /// The environment with no slot.
     pub fn empty() -> Env
@@ -115,8 +115,8 @@ impl Env {
     /// order of their lists of slots. `Equal` says that they are the same set.
     pub fn compare_in(&self, order: &[u16], other: &Env) -> Ordering
         requires slots { IsOrder SLOTS order.now }
-        requires listed { Lists order.now (members self.now) }
-        requires other_listed { Lists order.now (members other.now) }
+        requires listed { ListsAll order.now (members self.now) }
+        requires other_listed { ListsAll order.now (members other.now) }
         ensures { result ≡ compare_in order.now (members self.now) (members other.now) }
     {
         match self.size().cmp(&other.size()) {

@@ -1,9 +1,9 @@
 // Nogoods.
 ghost use Rattle.std.specs.Prelude.{◌≡◌, ◌<◌, ◌↔◌, IsTrue, IfOk, OnErr, IfSome, Some, Ok, []};
-ghost use Rattle.std.specs.Option.{ForSome, option_map, option_copied};
+ghost use Rattle.std.specs.Option.{ForSome, option_copied};
 ghost use Rattle.environment_sets.specs.Members.{members, sets, HasMember};
-ghost use Rattle.environment_sets.specs.Orders.{Lists, IsOrder};
-ghost use Rattle.environment_sets.specs.Walks.{GivesNext, count_left};
+ghost use Rattle.environment_sets.specs.Orders.{ListsAll, IsOrder};
+ghost use Rattle.environment_sets.specs.Walks.{GivesNextEnv, envs_left};
 ghost use Rattle.antichains.specs.Families.{Covers, Adds, Drops, IsAntichain};
 
 use antichains::{Antichain, Inserted, OutOfMemory};
@@ -71,10 +71,10 @@ impl Nogoods {
     /// are left falls from call to call.
     pub fn next_after(&self, order: &[u16], mask: &Env, last: Option<&Env>) -> Option<Env>
         requires slots { IsOrder SLOTS order.now }
-        requires mask_listed { Lists order.now (members mask.now) }
-        requires last_listed { ForSome last (λ l. Lists order.now (members l.now)) }
-        ensures next { GivesNext order.now (HasMember self.now) (members mask.now) (option_map members (option_copied last.entry)) (option_map members result) }
-        ensures falls { IfSome result (λ e. count_left SLOTS order.now (members mask.now) (Some (members e)) (sets self.now) < count_left SLOTS order.now (members mask.now) (option_map members (option_copied last.entry)) (sets self.now)) }
+        requires mask_listed { ListsAll order.now (members mask.now) }
+        requires last_listed { ForSome last (λ l. ListsAll order.now (members l.now)) }
+        ensures next { GivesNextEnv order.now self.now mask.now (option_copied last.entry) result }
+        ensures falls { IfSome result (λ e. envs_left order.now self.now mask.now (Some e) < envs_left order.now self.now mask.now (option_copied last.entry)) }
     {
         self.antichain.next_after(order, mask, last)
     }

@@ -2,7 +2,7 @@ use Rattle.std.proofs.Common.{rules, List, subst}
 use Rattle.std.proofs.lemmas.Fn.{filter_same}
 use Rattle.environment_sets.specs.declared.environment.Env.{Env}
 use Rattle.environment_sets.specs.Sets.{◌⊆◌}
-use Rattle.environment_sets.specs.Members.{members, sets, HasMember}
+use Rattle.environment_sets.specs.Members.{members, HasMember}
 use Rattle.antichains.specs.Families.{Drops}
 use Rattle.antichains.proofs.Changes.{leaves_out, IsLeft, antichain-left, drops_over-left}
 use Rattle.antichains.proofs.antichain.Antichain.drop_over.Goals as goal

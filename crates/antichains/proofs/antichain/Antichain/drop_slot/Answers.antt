@@ -1,7 +1,7 @@
 use Rattle.std.proofs.Common.{rules, List, IsTrue, subst}
 use Rattle.std.proofs.lemmas.Fn.{filter_same}
 use Rattle.environment_sets.specs.declared.environment.Env.{Env}
-use Rattle.environment_sets.specs.Members.{members, sets, HasMember}
+use Rattle.environment_sets.specs.Members.{members, HasMember}
 use Rattle.antichains.specs.Families.{Drops}
 use Rattle.antichains.proofs.Changes.{lacks, IsLeft, antichain-left, drops_slot-left}
 use Rattle.antichains.proofs.antichain.Antichain.drop_slot.Goals as goal

@@ -1,7 +1,7 @@
-use Rattle.std.proofs.Common.{◌≡◌, rules, true≢false, sym, ◌∙◌, ◌∷◌, [], ◌++◌, List, subst}
+use Rattle.std.proofs.Common.{rules, true≢false, sym, ◌∙◌, List, subst}
 use Rattle.std.proofs.lemmas.Fn.{filter_same}
 use Rattle.environment_sets.specs.declared.environment.Env.{Env}
-use Rattle.environment_sets.specs.Members.{members, sets, HasMember}
+use Rattle.environment_sets.specs.Members.{members, HasMember}
 use Rattle.antichains.specs.Families.{Covers, Adds}
 use Rattle.antichains.proofs.Changes.{leaves_out, IsLeft, adds-left, antichain-added}
 use Rattle.antichains.proofs.antichain.Antichain.insert.Goals as goal

@@ -1,9 +1,8 @@
-use Rattle.std.proofs.Common.{◌≡◌, ◌+◌, List, take, Option, true≢false, sym, ap, subst, ◌∙◌}
+use Rattle.std.proofs.Common.{◌+◌, List, take, Option, true≢false, sym, subst, ◌∙◌}
 use Rattle.std.specs.Option.{option_map, option_copied}
 use Rattle.std.proofs.lemmas.List.{take_all}
 use Rattle.environment_sets.specs.declared.environment.Env.{Env}
 use Rattle.environment_sets.specs.declared.environment.TheConstants.{SLOTS}
-use Rattle.environment_sets.specs.Sets.{Set}
 use Rattle.environment_sets.specs.Members.{members, HasMember}
 use Rattle.environment_sets.specs.Walks.{GivesNext}
 use Rattle.antichains.proofs.Nearer.{none_found, next_stays, next_first, found_listed, falls}

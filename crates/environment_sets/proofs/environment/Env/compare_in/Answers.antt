@@ -1,4 +1,4 @@
-use Rattle.std.proofs.Common.{◌≡◌, sym, ap₂, ◌∙◌, nat_cmp}
+use Rattle.std.proofs.Common.{sym, ap₂, ◌∙◌, nat_cmp}
 use Rattle.environment_sets.specs.Members.{members}
 use Rattle.environment_sets.specs.Orders.{compare_in}
 use Rattle.environment_sets.specs.declared.environment.TheConstants.{SLOTS}

@@ -15,7 +15,7 @@ returns-then-not-other-i c =
     let out : E ⊆ F → ⊥ = λ within. true≢false (sym (within c.loop-i.i c.if-self-i.true) ∙ c.if-not-other-i.true) in
     record {
       subset = (λ no. absurd (true≢false (sym no)), λ within. absurd (out within));
-      test = is_within_test SLOTS E F false (slots_are_below c.args.self.now) (λ no. absurd (true≢false (sym no))) (λ within. absurd (out within))
+      test = is_within_test SLOTS E F false (slots_are_below c.args.self.now) (λ no. absurd (true≢false (sym no))) (λ within. absurd (out within));
     }
 
 pub loop-i-preserved : goal.loop-i-preserved
@@ -33,5 +33,5 @@ returns c =
     let all : E ⊆ F = λ k inside. let low : k < SLOTS = slots_are_below c.args.self.now k inside in c.loop-i.invariant k (omega arith) inside in
     record {
       subset = (λ _. all, λ _. refl);
-      test = is_within_test SLOTS E F true (slots_are_below c.args.self.now) (λ _. all) (λ _. refl)
+      test = is_within_test SLOTS E F true (slots_are_below c.args.self.now) (λ _. all) (λ _. refl);
     }

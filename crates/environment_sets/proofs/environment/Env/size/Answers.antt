@@ -1,4 +1,4 @@
-use Rattle.std.proofs.Common.{arith, sym, ap, ap₂, ◌+◌, cond, ◌∙◌, refl}
+use Rattle.std.proofs.Common.{arith, sym, ap, ap₂, ◌+◌, cond, ◌∙◌}
 use Rattle.environment_sets.specs.Members.{members}
 use Rattle.environment_sets.specs.Sets.{size_below}
 use Rattle.environment_sets.proofs.Sizes.{size_below-zero, size_below-more}
