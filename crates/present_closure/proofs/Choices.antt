@@ -1,6 +1,6 @@
 -- What words at some ports of an instance say.
 use Rattle.std.proofs.Common.{◌≡◌, ℕ, zero, suc, ◌+◌, ◌<◌, ◌^◌, ◌⊎◌, inl, inr, Bool, true, false, IsTrue, ◌&&◌, nat_lt, if◌then◌else◌, List, [], ◌∷◌, length, Option, Some, None, ◌↔◌, slice_get, slice_index_or, true≢false, refl, sym, ap, subst, ◌∙◌, arith}
-use Rattle.std.specs.Option.{option_and_then}
+use Rattle.std.specs.Option.{option_map, option_and_then}
 use Rattle.circuit_model.specs.declared.model.Cell.{Cell}
 use Rattle.circuit_model.specs.declared.model.Instance.{Instance}
 use Rattle.circuit_model.specs.declared.model.Primitive.{Primitive}
@@ -13,10 +13,11 @@ use Rattle.present_closure.specs.declared.table.Held.{Held}
 use Rattle.present_closure.specs.declared.table.Step.{Step}
 use Rattle.present_closure.specs.declared.table.Step.TheVariants.{Quiet, Grew, Clash}
 use Rattle.present_closure.specs.Finding.{members}
-use Rattle.present_closure.specs.Closing.{Table, held_at, word_at, kept_at, kept, words_of, AreKept, IsReady, IsIn, IsSupport, IsSettledAt, IsRefutedAt, PutsAll, PutsForced, Learns}
+use Rattle.present_closure.specs.Closing.{Table, held_at, word_at, value_of, kept_at, kept, words_of, AreKept, IsReady, IsIn, IsSupport, IsSettledAt, IsRefutedAt, PutsAll, PutsForced, Learns}
+use Rattle.present_closure.proofs.Kept.{words_of_at}
 
 -- a tuple of a relation has a word for each port
-Relates-length : (prim : Primitive) (widths t : List ℕ) → Relates prim widths t → length t ≡ ports_of prim
+pub Relates-length : (prim : Primitive) (widths t : List ℕ) → Relates prim widths t → length t ≡ ports_of prim
 Relates-length Buf (w ∷ _) (a ∷ z ∷ []) h = refl
 Relates-length Not (w ∷ _) (a ∷ z ∷ []) h = refl
 Relates-length And (w ∷ _) (a ∷ b ∷ z ∷ []) h = refl
@@ -63,6 +64,13 @@ AreKept-kept table instance choice = record { three = refl; there = there } wher
 module _ (old new : Table) (instance : Instance) (ready : IsReady old instance) (choice : List Bool) where
   abbrev known : List (Option ℕ)
   known = words_of (kept old instance choice)
+
+  -- the words fit the widths
+  pub words_fit : (p w v : ℕ) → slice_get instance.widths p ≡ Some w → slice_get known p ≡ Some (Some v) → v < 2 ^ w
+  words_fit p w v e k =
+      let held : (h : Held) × (slice_get (kept old instance choice) p ≡ Some (Some h)) × (h.value ≡ v) = words_of_at (kept old instance choice) p v k in
+      let there : (c : Cell) × (slice_get instance.cells p ≡ Some c) × (held_at old c.net ≡ Some held.0) = (AreKept-kept old instance choice).there p held.0 held.1 in
+      ready.words p w v there.0 there.1 e (ap (option_map value_of) there.2 ∙ ap (λ (v : ℕ). Some v) held.2)
 
   module _ (refuted : Bool) (forced : List (Option ℕ)) (inference : IsInference instance.prim instance.widths known refuted forced) where
     pub refuted_at : IsTrue refuted → IsRefutedAt old instance

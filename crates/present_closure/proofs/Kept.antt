@@ -10,7 +10,14 @@ use Rattle.circuit_model.specs.Diagnoses.{Place, AtPart}
 use Rattle.present_closure.specs.declared.table.Held.{Held}
 use Rattle.present_closure.specs.Finding.{members}
 use Rattle.present_closure.specs.Sets.{IsWith, IsUnion}
-use Rattle.present_closure.specs.Closing.{Table, held_at, kept_at, IsSupport}
+use Rattle.present_closure.specs.Closing.{Table, held_at, kept_at, words_of, IsSupport}
+
+-- a known word is the word of what is held there
+pub words_of_at : (held : List (Option Held)) (port v : ℕ) → slice_get (words_of held) port ≡ Some (Some v) → (h : Held) × (slice_get held port ≡ Some (Some h)) × (h.value ≡ v)
+words_of_at [] port v e = cc
+words_of_at (None ∷ held) zero v e = cc
+words_of_at (Some h ∷ held) zero v e = (h, refl, cc)
+words_of_at (o ∷ held) (suc port) v e = words_of_at held port v e
 
 pub kept_at-chosen : (table : Table) (instance : Instance) (choice : List Bool) (port : ℕ) (d : Cell)
     → slice_index_or choice port false ≡ true → port < instance.ports → port < length instance.cells

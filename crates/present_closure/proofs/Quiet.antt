@@ -13,31 +13,14 @@ use Rattle.circuit_model.specs.declared.present.Component.{Component}
 use Rattle.circuit_model.specs.Closure.{fact, AreHeld, AreTwoWords, IsForced, IsRefuted, Follows}
 use Rattle.circuit_model.specs.Stock.{IsChosen, Has, IsRefutedBy}
 use Rattle.circuit_model.specs.Diagnoses.{Place, AtPart, AtCell}
-use Rattle.circuit_model.specs.Present.{Setup, is_cell, reading_in}
+use Rattle.circuit_model.specs.Present.{Setup, reading_in, IsFactOf}
 use Rattle.circuit_model.specs.Whole.{stock, everything}
-use Rattle.circuit_model.proofs.Rounds.{IsClosed, Follows-within, Clashes-within}
-use Rattle.present_closure.specs.Closing.{Table, word_at, IsIn, HasReadings, IsSettled, IsSettledAt}
-
-same_cell : (c d : Cell) → is_cell c d ≡ true → c ≡ d
-same_cell c d e =
-    let net : c.net ≡ d.net = grind (arith, nat_tests) in
-    let cycle : c.cycle ≡ d.cycle = grind (arith, nat_tests) in
-    ap₂ (λ (n t : ℕ). let d : Cell = record { net = n; cycle = t } in d) net cycle
-
--- a measured word is one of the measurements
-abbrev Measured : List Fact → Cell → ℕ → Type 0
-Measured readings c v = (f : Fact) × Contains readings f × (f.cell ≡ c) × (f.value ≡ v)
-
-measured_first : (f : Fact) (readings : List Fact) (c : Cell) (v : ℕ) (b : Bool) → is_cell f.cell c ≡ b → (if b then Some f.value else reading_in readings c) ≡ Some v → (reading_in readings c ≡ Some v → Measured readings c v) → Measured (f ∷ readings) c v
-measured_first f readings c v true is e rest = (f, (0, omega arith, refl), same_cell f.cell c is, cc)
-measured_first f readings c v false is e rest =
-    let r : Measured readings c v = rest e in
-    (r.0, (suc r.1.0, omega (arith, r.1.1), r.1.2), r.2, r.3)
-
-reading_in_some : (readings : List Fact) (c : Cell) (v : ℕ) → reading_in readings c ≡ Some v → Measured readings c v
-reading_in_some [] c v e = cc
-reading_in_some (f ∷ readings) c v e =
-    measured_first f readings c v (is_cell f.cell c) refl e (λ h. reading_in_some readings c v h)
+use Rattle.circuit_model.proofs.Rounds as rounds
+use Rattle.circuit_model.proofs.Rounds.{Follows-within, Clashes-within}
+use Rattle.present_closure.specs.declared.table.Held.{Held}
+use Rattle.present_closure.specs.Finding.{members, IsValue, IsSilent}
+use Rattle.present_closure.specs.Closing.{Table, held_at, word_at, value_of, IsIn, IsBacked, HasReadings, IsClosable, IsSettled, IsSettledAt, IsClosed}
+use Rattle.present_closure.proofs.Measured.{measured_fact}
 
 not_part : (o : Option ℕ) (c : Cell) (part : List Instance) → option_map (λ v. Reading (fact c v)) o ≡ Some (Part part) → ⊥
 not_part None c part e = cc
@@ -57,7 +40,7 @@ part_at [] place part e = cc
 part_at (c ∷ components) zero part e = (c, refl, cc)
 part_at (c ∷ components) (suc place) part e = part_at components place part e
 
-module _ (s : Setup) (table : Table) (cycles : (f : Fact) → Contains s.readings f → f.cell.cycle ≡ 0) (readings : HasReadings s table) (settled : IsSettled s table) where
+module _ (s : Setup) (table : Table) (closable : IsClosable s) (readings : HasReadings s table) (settled : IsSettled s table) where
   abbrev A : Assumption → Type 0
   A = IsChosen (stock s) (everything s)
 
@@ -77,13 +60,14 @@ module _ (s : Setup) (table : Table) (cycles : (f : Fact) → Contains s.reading
     is_in : (c : Cell) → stock s (AtCell c) ≡ Some (Reading f) → IsIn table f
     is_in c e =
         let r : (reading_in s.readings c ≡ Some f.value) × (c ≡ f.cell) = is_reading (reading_in s.readings c) c f e in
-        let m : Measured s.readings c f.value = reading_in_some s.readings c f.value r.0 in
-        let cell : m.0.cell ≡ f.cell = m.2 ∙ r.1 in
-        let net : m.0.cell.net ≡ f.cell.net = ap (λ (c : Cell). c.net) cell in
-        let word : word_at table m.0.cell.net ≡ Some m.0.value = readings m.0 m.1 in
+        let is : IsFactOf s (fact c f.value) = measured_fact s closable.lawful c f.value r.0 in
+        let one = is.cycle in
+        let zeroth : c.cycle ≡ 0 = omega (arith, closable.one_cycle) in
+        let cell_in : ℕ → Cell = λ t. record { net = c.net; cycle = t } in
+        let word : word_at table c.net ≡ Some f.value = readings c.net f.value (ap (λ (t : ℕ). reading_in s.readings (cell_in t)) (sym zeroth) ∙ r.0) in
         record {
-          cycle = ap (λ (c : Cell). c.cycle) (sym cell) ∙ cycles m.0 m.1;
-          word = ap (λ (n : ℕ). word_at table n) (sym net) ∙ (word ∙ ap (λ (v : ℕ). Some v) m.3);
+          cycle = ap (λ (c : Cell). c.cycle) (sym r.1) ∙ zeroth;
+          word = ap (λ (c : Cell). word_at table c.net) (sym r.1) ∙ word;
         }
 
   settled_at : (part : List Instance) → A (Part part) → (instance : Instance) → Contains part instance → (known : List (Option ℕ)) → AreHeld (IsIn table) instance.cells known → IsSettledAt table instance known
@@ -92,7 +76,7 @@ module _ (s : Setup) (table : Table) (cycles : (f : Fact) → Contains s.reading
       let P : List Instance → Type 0 = λ part. Contains part instance in
       settled c.0 c.1 c.2 instance (subst P (sym c.3) of_part) known held
 
-  closed : IsClosed A (IsIn table)
+  closed : rounds.IsClosed A (IsIn table)
   closed = record {
     readings = reading_of;
     forced = λ f i. (settled_at i.part i.assumed i.instance i.of_part i.known i.from).forced i.port f.value f.cell i.at i.forces;
@@ -111,3 +95,24 @@ module _ (s : Setup) (table : Table) (cycles : (f : Fact) → Contains s.reading
   -- and nothing clashes
   pub quiet_consistent : IsRefutedBy (stock s) (everything s) → ⊥
   quiet_consistent clash = Clashes-within A (IsIn table) closed one_word (λ r. (settled_at r.part r.assumed r.instance r.of_part r.known r.from).fine r.refutes) clash
+
+-- what a closed table has at a cell is what is found there
+module _ (s : Setup) (table : Table) (closed : IsClosed s table) (c : Cell) (zeroth : c.cycle ≡ 0) where
+  pub value_found : (h : Held) → held_at table c.net ≡ Some h → IsValue s c h.value h.from
+  value_found h e =
+      let backed : IsBacked s c.net h = closed.sound.backed c.net h e in
+      let cell_in : ℕ → Cell = λ t. record { net = c.net; cycle = t } in
+      record {
+        consistent = closed.consistent;
+        environment = backed.environment;
+        follows = subst (λ (t : ℕ). Has (stock s) (fact (cell_in t) h.value) (members h.from)) (sym zeroth) backed.follows;
+      }
+
+  pub nothing_found : held_at table c.net ≡ None → IsSilent s c
+  nothing_found e = record {
+    consistent = closed.consistent;
+    nothing = λ v h.
+        let word : word_at table c.net ≡ Some v = (closed.complete (fact c v) h).word in
+        let none : word_at table c.net ≡ None = ap (option_map value_of) e in
+        cc;
+  }

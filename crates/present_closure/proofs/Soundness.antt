@@ -23,13 +23,7 @@ use Rattle.present_closure.specs.declared.environment.Environment.{Environment}
 use Rattle.present_closure.specs.declared.table.Held.{Held}
 use Rattle.present_closure.specs.Finding.{members}
 use Rattle.present_closure.specs.Closing.{Table, held_at, word_at, value_of, words_of, IsBacked, IsSound, IsInstanceAt, IsSupport, AreKept}
-
--- a known word is the word of what is held there
-pub words_of_at : (held : List (Option Held)) (port v : ℕ) → slice_get (words_of held) port ≡ Some (Some v) → (h : Held) × (slice_get held port ≡ Some (Some h)) × (h.value ≡ v)
-words_of_at [] port v e = cc
-words_of_at (None ∷ held) zero v e = cc
-words_of_at (Some h ∷ held) zero v e = (h, refl, cc)
-words_of_at (o ∷ held) (suc port) v e = words_of_at held port v e
+use Rattle.present_closure.proofs.Kept.{words_of_at}
 
 -- a word fits the width at its place in a tuple
 FitEach-at : (widths t : List ℕ) (p w v : ℕ) → FitEach widths t → slice_get widths p ≡ Some w → slice_get t p ≡ Some v → v < 2 ^ w

@@ -10,14 +10,12 @@ use Rattle.circuit_model.specs.declared.model.Assumption.TheVariants.{Part}
 use Rattle.circuit_model.specs.declared.present.Component.{Component}
 use Rattle.circuit_model.specs.Closure.{fact, AreHeld}
 use Rattle.circuit_model.specs.Inference.{Forces, Refutes}
-use Rattle.circuit_model.specs.declared.model.Primitive.TheVariants.{Add}
-use Rattle.circuit_model.specs.declared.model.Kind.TheVariants as kind
 use Rattle.circuit_model.specs.Lawful.{IsLawful}
-use Rattle.circuit_model.specs.Kinds.{cell_at}
+use Rattle.circuit_model.specs.Kinds.{cell_at, primitive_of}
 use Rattle.circuit_model.specs.Stock.{IsEnvironment, Has, IsRefutedBy}
 use Rattle.circuit_model.specs.Diagnoses.{Place, AtPart}
 use Rattle.circuit_model.specs.Present as present
-use Rattle.circuit_model.specs.Present.{Setup, width_of}
+use Rattle.circuit_model.specs.Present.{Setup, width_of, reading_in}
 use Rattle.circuit_model.specs.Whole.{stock, everything}
 use Rattle.present_closure.specs.declared.environment.Environment.{Environment}
 use Rattle.present_closure.specs.declared.table.Held.{Held}
@@ -56,7 +54,12 @@ pub record IsSound (s : Setup) (table : Table) : Type 0 where
 
 -- each measured word is held
 abbrev pub HasReadings : Setup → Table → Type 0
-HasReadings s table = (f : Fact) → Contains s.readings f → word_at table f.cell.net ≡ Some f.value
+HasReadings s table = (net v : ℕ) → reading_in s.readings (cell_at 0 net) ≡ Some v → word_at table net ≡ Some v
+
+-- the measured word of the net, if there is one
+abbrev pub IsMeasured : Setup → ℕ → Option Held → Type 0
+IsMeasured s net None = reading_in s.readings (cell_at 0 net) ≡ None
+IsMeasured s net (Some h) = (reading_in s.readings (cell_at 0 net) ≡ Some h.value) × IsBacked s net h
 
 -- what is held at a port that the choice names
 abbrev pub kept_at : Table → Instance → List Bool → ℕ → Option Held
@@ -92,9 +95,13 @@ IsSettledFor table instance = (known : List (Option ℕ)) → AreHeld (IsIn tabl
 abbrev pub IsSettledPart : Table → Component → Type 0
 IsSettledPart table c = (instance : Instance) → Contains c.part instance → IsSettledFor table instance
 
+-- so for the component at the place
+abbrev pub IsSettledPlace : Setup → Table → ℕ → Type 0
+IsSettledPlace s table place = (c : Component) → slice_get s.parts place ≡ Some c → IsSettledPart table c
+
 -- so for all components
 abbrev pub IsSettled : Setup → Table → Type 0
-IsSettled s table = (place : ℕ) (c : Component) → slice_get s.parts place ≡ Some c → IsSettledPart table c
+IsSettled s table = (place : ℕ) → IsSettledPlace s table place
 
 -- words stay, and one place fewer is empty
 pub record Grows (old new : Table) : Type 0 where
@@ -120,7 +127,6 @@ pub record AreKept (table : Table) (instance : Instance) (held : List (Option He
 -- an instance at cells of the one cycle, each with a place in the table, and the words there fit
 pub record IsReady (table : Table) (instance : Instance) : Type 0 where
   pub lawful : IsLawful instance
-  pub built : instance.prim ≡ Add
   pub three : length instance.cells ≡ 3
   pub in_cycle : (port : ℕ) (c : Cell) → slice_get instance.cells port ≡ Some c → c.cycle ≡ 0
   pub in_table : (port : ℕ) (c : Cell) → slice_get instance.cells port ≡ Some c → c.net < length table
@@ -177,8 +183,13 @@ Tells s Settled old new Quiet = (new ≡ old) × Settled
 Tells s Settled old new Grew = IsSound s new × Grows old new
 Tells s Settled old new Clash = IsRefutedBy (stock s) (everything s)
 
--- the present has one cycle
+-- a lawful present of one cycle
 pub record IsClosable (s : Setup) : Type 0 where
   pub lawful : present.IsLawful s
   pub one_cycle : s.cycles ≡ 1
-  pub built : All (λ c. c.kind ≡ kind.Add) s.parts
+
+-- all that follows is held, and nothing clashes
+pub record IsClosed (s : Setup) (table : Table) : Type 0 where
+  pub sound : IsSound s table
+  pub complete : (f : Fact) → Has (stock s) f (everything s) → IsIn table f
+  pub consistent : IsRefutedBy (stock s) (everything s) → ⊥

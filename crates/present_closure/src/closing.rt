@@ -1,7 +1,17 @@
 // Closing a present of one cycle.
 
+ghost use Rattle.std.specs.Prelude.{◌<◌, length, MatchBool};
+ghost use Rattle.circuit_model.specs.Present.{MOST_PARTS};
+ghost use Rattle.circuit_model.specs.Stock.{IsRefutedBy};
+ghost use Rattle.circuit_model.specs.Whole.{stock, everything};
+ghost use Rattle.present_closure.specs.Closing.{IsClosable, IsSound, HasReadings, IsClosed, IsReady, IsSettledFor, IsSettledPlace, IsSettled, Learns, Tells};
+
+use crate::inferring::take_choice;
+use crate::table::{Held, Step};
+use circuit_model::{Instance, Present};
+
 /// Which of an instance's ports give their words.
-pub const CHOICES: [[bool; 3]; 8] = [
+const CHOICES: [[bool; 3]; 8] = [
     [false, false, false],
     [true, false, false],
     [false, true, false],
@@ -11,3 +21,66 @@ pub const CHOICES: [[bool; 3]; 8] = [
     [false, true, true],
     [true, true, true],
 ];
+
+/// Puts in all that follows, and says whether the present contradicts itself.
+pub fn close(present: &Present, table: &mut [Option<Held>]) -> bool
+    requires closable { IsClosable present.now }
+    requires sound { IsSound present.now table.old }
+    requires readings { HasReadings present.now table.old }
+    ensures { MatchBool result (IsRefutedBy (stock present.now) (everything present.now)) (IsClosed present.now table.new) }
+{
+    loop {
+        match pass(present, table) {
+            Step::Quiet => return false,
+            Step::Grew => {}
+            Step::Clash => return true,
+        }
+    }
+}
+
+/// Goes over the components, up to the first from which something is learnt.
+fn pass(present: &Present, table: &mut [Option<Held>]) -> Step
+    requires closable { IsClosable present.now }
+    requires sound { IsSound present.now table.old }
+    ensures { Tells present.now (IsSettled present.now table.old) table.old table.new result }
+{
+    for place in 0..present.parts() {
+        let step = take_part(present, place, table);
+        let Step::Quiet = step else {
+            return step;
+        };
+    }
+    Step::Quiet
+}
+
+/// Goes over the instances of a component, up to the first from which something is learnt.
+fn take_part(present: &Present, place: u16, table: &mut [Option<Held>]) -> Step
+    requires closable { IsClosable present.now }
+    requires place { place < length present.now.parts }
+    requires sound { IsSound present.now table.old }
+    ensures { Tells present.now (IsSettledPlace present.now table.old place) table.old table.new result }
+{
+    let part = &present.part_at(place).part;
+    for index in 0..part.len() {
+        let step = take_instance(place, part.at(index), table);
+        let Step::Quiet = step else {
+            return step;
+        };
+    }
+    Step::Quiet
+}
+
+/// Puts in what words at some ports of the instance force, up to the first word that is not held.
+fn take_instance(place: u16, instance: &Instance, table: &mut [Option<Held>]) -> Step
+    requires place { place < MOST_PARTS }
+    requires ready { IsReady table.old instance.now }
+    ensures { Learns place instance.now (IsSettledFor table.old instance.now) table.old table.new result }
+{
+    for choice in &CHOICES {
+        let step = take_choice(place, instance, choice, table);
+        let Step::Quiet = step else {
+            return step;
+        };
+    }
+    Step::Quiet
+}
