@@ -78,10 +78,13 @@ module _ (old new : Table) (instance : Instance) (ready : IsReady old instance) 
 
     -- what becomes of the forced words is what is learnt from the instance
     pub forced_learns : (place : ℕ) (from : Environment) (step : Step) → IsSupport place (kept old instance choice) (members from) → refuted ≡ false → PutsAll instance.cells forced from old new step → Learns place instance (IsSettledAt old instance known) old new step
-    forced_learns place from Quiet support fine puts = (puts.0, record {
-      fine = λ r. true≢false (sym (inference.refutes_exactly.1 r) ∙ fine);
-      forced = λ port v c e f. record { cycle = ready.in_cycle port c e; word = puts.1 port v c e ((inference.forces_exactly port v).1 f) };
-    })
+    forced_learns place from Quiet support fine puts = (
+      puts.0,
+      record {
+        fine = λ r. true≢false (sym (inference.refutes_exactly.1 r) ∙ fine);
+        forced = λ port v c e f. record { cycle = ready.in_cycle port c e; word = puts.1 port v c e ((inference.forces_exactly port v).1 f) };
+      },
+    )
     forced_learns place from Grew support fine puts = record {
       held = kept old instance choice;
       kept = AreKept-kept old instance choice;

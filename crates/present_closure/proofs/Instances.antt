@@ -113,7 +113,7 @@ instance_at_place s closable place c e instance of_part good = record {
   is : instance ≡ first_of c.kind c.nets widths
   is =
       let part : c.part ≡ first_of c.kind c.nets widths ∷ [] =
-          component.part ∙ (ap (λ (n : ℕ). instances c.kind c.nets widths n) closable.one_cycle ∙ instances-one c.kind c.nets widths) in
+      component.part ∙ (ap (λ (n : ℕ). instances c.kind c.nets widths n) closable.one_cycle ∙ instances-one c.kind c.nets widths) in
       let P : List Instance → Type 0 = λ part. Contains part instance in
       only_element (first_of c.kind c.nets widths) instance (subst P part of_part)
 

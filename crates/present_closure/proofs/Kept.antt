@@ -61,6 +61,7 @@ module _ (place : ℕ) (held : List (Option Held)) where
     antecedents = below_more (λ (port : ℕ). (h : Held) → slice_get held port ≡ Some (Some h) → members h.from ⊆ E) n below.antecedents (λ h e. let here : slice_get held n ≡ Some None = slice_get-get_or held n None inside ∙ ap Some is in cc);
     only = below.only;
   }
+
   pub IsSupportBelow-all : (n : ℕ) (E : Set Place) → length held ≤ n → IsSupportBelow n place held E → IsSupport place held E
   IsSupportBelow-all n E all below = record {
     component = below.component;

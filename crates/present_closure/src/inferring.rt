@@ -54,7 +54,12 @@ fn keep(instance: &Instance, choice: &[bool; 3], table: &[Option<Held>]) -> [Opt
 }
 
 /// What is held at the port, if it is chosen.
-fn kept_at(instance: &Instance, choice: &[bool; 3], table: &[Option<Held>], port: u8) -> Option<Held>
+fn kept_at(
+    instance: &Instance,
+    choice: &[bool; 3],
+    table: &[Option<Held>],
+    port: u8,
+) -> Option<Held>
     requires port { port < 3 }
     requires ready { IsReady table.now instance.now }
     ensures { result ≡ closing.kept_at table.now instance.now choice.now port }

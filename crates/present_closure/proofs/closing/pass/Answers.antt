@@ -7,7 +7,7 @@ use Rattle.present_closure.proofs.closing.pass.Goals as goal
 pub loop-place-preserved : goal.loop-place-preserved
 loop-place-preserved c =
     let quiet : (c.take_part-step.new.table ≡ c.args.table.now) × IsSettledPlace c.args.present.now c.args.table.now c.loop-place.place =
-        Tells-quiet c.args.present.now (λ (table : Table). IsSettledPlace c.args.present.now table c.loop-place.place) c.args.table.now c.loop-place.table c.take_part-step.new.table c.take_part-step.result c.in-Quiet.is c.loop-place.invariant.same c.take_part-step.ensures in
+    Tells-quiet c.args.present.now (λ (table : Table). IsSettledPlace c.args.present.now table c.loop-place.place) c.args.table.now c.loop-place.table c.take_part-step.new.table c.take_part-step.result c.in-Quiet.is c.loop-place.invariant.same c.take_part-step.ensures in
     record {
       same = quiet.0;
       settled = below_more (λ (k : ℕ). IsSettledPlace c.args.present.now c.args.table.now k) c.loop-place.place c.loop-place.invariant.settled quiet.1;

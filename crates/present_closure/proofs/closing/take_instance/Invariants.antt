@@ -6,5 +6,5 @@ use Rattle.present_closure.proofs.closing.take_instance.Given as goal
 abbrev pub invariant-loop-choice : goal.invariant-loop-choice
 invariant-loop-choice l = record {
   same : l.table ≡ l.fn.table;
-  settled : (k : ℕ) → k < l.choice-index → IsSettledAt l.fn.table l.instance (words_of (kept l.fn.table l.instance (slice_index_or CHOICES k [])))
+  settled : (k : ℕ) → k < l.choice-index → IsSettledAt l.fn.table l.instance (words_of (kept l.fn.table l.instance (slice_index_or CHOICES k [])));
 }

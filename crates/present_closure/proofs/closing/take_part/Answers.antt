@@ -24,7 +24,7 @@ returns-in_default c =
 pub loop-index-preserved : goal.loop-index-preserved
 loop-index-preserved c =
     let quiet : (c.take_instance-step.new.table ≡ c.args.table.now) × IsSettledFor c.args.table.now c.at.result.now =
-        Learns-quiet c.args.place c.at.result.now (λ (table : Table). IsSettledFor table c.at.result.now) c.args.table.now c.loop-index.table c.take_instance-step.new.table c.take_instance-step.result c.in-Quiet.is c.loop-index.invariant.same c.take_instance-step.ensures in
+    Learns-quiet c.args.place c.at.result.now (λ (table : Table). IsSettledFor table c.at.result.now) c.args.table.now c.loop-index.table c.take_instance-step.new.table c.take_instance-step.result c.in-Quiet.is c.loop-index.invariant.same c.take_instance-step.ensures in
     record {
       same = quiet.0;
       settled = each_below_more c.part_at.result.now.part c.loop-index.index c.at.result.now (λ (i : Instance). IsSettledFor c.args.table.now i) c.at.ensures.instance c.loop-index.invariant.settled quiet.1;
@@ -33,5 +33,5 @@ loop-index-preserved c =
 pub returns : goal.returns
 returns c =
     let settled : IsSettledPart c.args.table.now c.part_at.result.now =
-        each_instance c.part_at.result.now.part (λ (i : Instance). IsSettledFor c.args.table.now i) (λ k inside. c.loop-index.invariant.settled k (omega arith)) in
+    each_instance c.part_at.result.now.part (λ (i : Instance). IsSettledFor c.args.table.now i) (λ k inside. c.loop-index.invariant.settled k (omega arith)) in
     (c.loop-index.invariant.same, λ d e. at_slice_get c.args.present.now.parts c.args.place c.part_at.result.now d (λ (d : Component). IsSettledPart c.args.table.now d) c.part_at.ensures e settled)
