@@ -1,8 +1,7 @@
 -- The nets with three names.
-use Rattle.std.proofs.Common.{◌≡◌, ℕ, zero, suc, ◌<◌, Bool, true, false, ◌&&◌, is_some, List, [], ◌∷◌, length, get_or, Option, Some, None, refl, sym, ap, arith, unwrap_or}
+use Rattle.std.proofs.Common.{◌≡◌, ℕ, zero, suc, ◌<◌, Bool, false, is_some, List, [], ◌∷◌, length, get_or, Some, None, refl, arith}
 use Rattle.std.specs.List.{All, list_all}
 use Rattle.circuit_model.specs.Present.{Setup, net_named}
-use Rattle.bench_cli.specs.State.{places_of}
 use Rattle.bench_cli.specs.Serving.{AreNets}
 
 pub three : {X : Type 0} (xs : List X) (a b z : X) → length xs ≡ 3 → a ≡ get_or xs 0 a → b ≡ get_or xs 1 b → z ≡ get_or xs 2 z → xs ≡ a ∷ b ∷ z ∷ []

@@ -1,8 +1,7 @@
 -- Text that is put in parts.
-use Rattle.std.proofs.Common.{◌≡◌, ◌≤◌, ℕ, ◌+◌, ◌-◌, ◌<◌, take_all, Bool, true, false, List, [], ◌∷◌, ◌++◌, Option, Ok, Err, refl, sym, ◌∙◌, ap, subst, append_assoc, arith, length, take, drop, get_or, suc, add-one, drop-cons, codes}
+use Rattle.std.proofs.Common.{◌≡◌, ℕ, Bool, true, false, List, [], ◌++◌, Option, Ok, Err, refl, sym, ◌∙◌, ap, subst, append_assoc, arith}
 use Rattle.std.specs.Io.KnownBytes.{Appends}
-use Rattle.bench_io.proofs.Bytes.{Appends-then, Rose-later, Rose-then, Appends-nothing}
-use Rattle.bench_io.specs.Causes.{Rose}
+use Rattle.bench_io.proofs.Bytes.{Appends-then, Rose-later, Appends-nothing}
 use Rattle.bench_io.specs.Writing.{Writes}
 use Rattle.bench_cli.specs.Puts.{Puts, PutsBy}
 

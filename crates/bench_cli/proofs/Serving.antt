@@ -17,7 +17,7 @@ use Rattle.bench_cli.specs.Requests.{Asks}
 use Rattle.bench_cli.specs.Replies.{Reply, Told, Refused, NoMemory}
 use Rattle.bench_cli.specs.Serving.{Serves, Asked}
 use Rattle.bench_cli.specs.declared.requests.Request.{Request}
-use Rattle.bench_cli.specs.State.{State, Takes, Tells, cell_of, unreadable, barred, served, clash, value, nothing}
+use Rattle.bench_cli.specs.State.{State, Takes, Tells, unreadable, barred, served, clash, value, nothing}
 use Rattle.bench_cli.specs.Turns.{Steps}
 use Rattle.bench_cli.specs.declared.replies.Answer.TheVariants as answer
 use Rattle.bench_cli.specs.declared.replies.Refusal.TheVariants.{NotBuilt}

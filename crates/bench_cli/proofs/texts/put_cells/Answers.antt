@@ -2,7 +2,7 @@ use Rattle.std.proofs.Common.{sym, ap, ◌∙◌, arith, take_all}
 use Rattle.std.specs.List.{join_with_byte}
 use Rattle.present_closure.specs.Finding.{members}
 use Rattle.bench_cli.specs.Texts.{cell_text, cells_in}
-use Rattle.bench_cli.proofs.Joining.{PutsPieces, PutsPieces-push, PutsPieces-as, PutsPieces-none, cells-chosen, cells-left}
+use Rattle.bench_cli.proofs.Joining.{PutsPieces-push, PutsPieces-as, PutsPieces-none, cells-chosen, cells-left}
 use Rattle.bench_cli.proofs.Putting.{Puts-as}
 use Rattle.bench_cli.proofs.texts.put_cells.Goals as goal
 use Rattle.bench_cli.proofs.texts.put_cells.Goals.{then-has_cell, else-has_cell}

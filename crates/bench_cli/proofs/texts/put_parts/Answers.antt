@@ -1,8 +1,8 @@
-use Rattle.std.proofs.Common.{sym, ap, ◌∙◌, arith, take_all, if◌then◌else◌, ◌∷◌, subst, List, ℕ}
+use Rattle.std.proofs.Common.{sym, ap, ◌∙◌, arith, take_all}
 use Rattle.std.specs.List.{join_with_byte}
 use Rattle.present_closure.specs.Finding.{members}
 use Rattle.bench_cli.specs.Texts.{part_names_in}
-use Rattle.bench_cli.proofs.Joining.{PutsPieces, PutsPieces-push, PutsPieces-as, PutsPieces-none, part_names-chosen, part_names-left}
+use Rattle.bench_cli.proofs.Joining.{PutsPieces-push, PutsPieces-as, PutsPieces-none, part_names-chosen, part_names-left}
 use Rattle.bench_cli.proofs.Putting.{Puts-as}
 use Rattle.bench_cli.proofs.texts.put_parts.Goals as goal
 use Rattle.bench_cli.proofs.texts.put_parts.Goals.{then-has_part, else-has_part}

@@ -1,6 +1,6 @@
 use Rattle.std.proofs.Common.{take}
 use Rattle.present_closure.specs.Finding.{members}
-use Rattle.bench_cli.specs.Texts.{part_names_in, cells_in}
+use Rattle.bench_cli.specs.Texts.{part_names_in}
 use Rattle.bench_cli.proofs.Joining.{PutsPieces}
 use Rattle.bench_cli.proofs.texts.put_parts.Given as goal
 
