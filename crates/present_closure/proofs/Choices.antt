@@ -1,19 +1,18 @@
 -- What words at some ports of an instance say.
-use Rattle.std.proofs.Common.{◌≡◌, ℕ, zero, suc, ◌+◌, ◌<◌, ◌^◌, ◌⊎◌, inl, inr, Bool, true, false, IsTrue, ◌&&◌, nat_lt, if◌then◌else◌, List, [], ◌∷◌, length, Option, Some, None, ◌↔◌, slice_get, slice_index_or, true≢false, refl, sym, ap, subst, ◌∙◌, arith}
+use Rattle.std.proofs.Common.{◌≡◌, ℕ, zero, suc, ◌<◌, ◌^◌, inr, Bool, true, false, IsTrue, ◌&&◌, nat_lt, if◌then◌else◌, List, [], ◌∷◌, length, Option, Some, None, slice_get, slice_index_or, true≢false, refl, sym, ap, ◌∙◌}
 use Rattle.std.specs.Option.{option_map, option_and_then}
 use Rattle.circuit_model.specs.declared.model.Cell.{Cell}
 use Rattle.circuit_model.specs.declared.model.Instance.{Instance}
 use Rattle.circuit_model.specs.declared.model.Primitive.{Primitive}
 use Rattle.circuit_model.specs.declared.model.Primitive.TheVariants.{Buf, Not, And, Or, Xor, Nand, Nor, Xnor, Add, Mul, Const}
-use Rattle.circuit_model.specs.Closure.{fact}
-use Rattle.circuit_model.specs.Inference.{ports_of, Relates, IsUnknownAt, Forces, Refutes, IsInference}
+use Rattle.circuit_model.specs.Inference.{ports_of, Relates, IsUnknownAt, Forces, IsInference}
 use Rattle.std.proofs.lemmas.Option.{slice_get_within}
 use Rattle.present_closure.specs.declared.environment.Environment.{Environment}
 use Rattle.present_closure.specs.declared.table.Held.{Held}
 use Rattle.present_closure.specs.declared.table.Step.{Step}
 use Rattle.present_closure.specs.declared.table.Step.TheVariants.{Quiet, Grew, Clash}
 use Rattle.present_closure.specs.Finding.{members}
-use Rattle.present_closure.specs.Closing.{Table, held_at, word_at, value_of, kept_at, kept, words_of, AreKept, IsReady, IsIn, IsSupport, IsSettledAt, IsRefutedAt, PutsAll, PutsForced, Learns}
+use Rattle.present_closure.specs.Closing.{Table, held_at, value_of, kept_at, kept, words_of, AreKept, IsReady, IsSupport, IsSettledAt, IsRefutedAt, PutsAll, Learns}
 use Rattle.present_closure.proofs.Kept.{words_of_at}
 
 -- a tuple of a relation has a word for each port

@@ -1,5 +1,5 @@
 -- The instances of a present of one cycle.
-use Rattle.std.proofs.Common.{◌≡◌, ℕ, zero, suc, ◌+◌, ◌<◌, ◌≤◌, List, [], ◌∷◌, length, map, Option, Some, None, slice_get, slice_index, slice_index_or, refl, sym, ap, subst, ◌∙◌, below_more, arith}
+use Rattle.std.proofs.Common.{◌≡◌, ℕ, zero, suc, ◌+◌, ◌<◌, List, [], ◌∷◌, length, map, Some, slice_get, slice_index, refl, sym, ap, subst, ◌∙◌, below_more, arith}
 use Rattle.std.specs.List.{All, Contains}
 use Rattle.std.specs.Option.{option_map}
 use Rattle.std.proofs.lemmas.List.{length-map, get_or-map}
@@ -7,14 +7,12 @@ use Rattle.std.proofs.lemmas.Option.{slice_get-map, slice_get-get_or, slice_get_
 use Rattle.circuit_model.specs.declared.model.Cell.{Cell}
 use Rattle.circuit_model.specs.declared.model.Instance.{Instance}
 use Rattle.circuit_model.specs.declared.model.Kind.{Kind}
-use Rattle.circuit_model.specs.declared.model.Kind.TheVariants.{Buf, Not, And, Or, Xor, Nand, Nor, Xnor, Add, Mul, Const, Reg}
+use Rattle.circuit_model.specs.declared.model.Kind.TheVariants.{Reg}
 use Rattle.circuit_model.specs.declared.model.Assumption.TheVariants.{Part}
 use Rattle.circuit_model.specs.declared.present.Component.{Component}
 use Rattle.circuit_model.specs.Kinds.{cell_at, primitive_of, instance_at, reset_instance, three_times, instances}
 use Rattle.circuit_model.specs.Lawful as lawful
-use Rattle.circuit_model.specs.Diagnoses.{AtPart}
-use Rattle.circuit_model.specs.Present.{Setup, width_of, IsLawfulComponent, IsLawful}
-use Rattle.circuit_model.specs.Whole.{stock}
+use Rattle.circuit_model.specs.Present.{Setup, width_of, IsLawfulComponent}
 use Rattle.present_closure.specs.Closing.{IsClosable, IsInstanceAt}
 
 -- the one instance of a component of the kind

@@ -1,5 +1,5 @@
 -- Measured words.
-use Rattle.std.proofs.Common.{◌≡◌, ℕ, zero, suc, ◌+◌, ◌<◌, Bool, true, false, List, [], ◌∷◌, length, Option, Some, None, IsSome, is_some, slice_set, if◌then◌else◌, inl, inr, refl, sym, ap, ap₂, subst, ◌∙◌, arith}
+use Rattle.std.proofs.Common.{◌≡◌, ℕ, suc, ◌+◌, ◌<◌, Bool, true, false, List, [], ◌∷◌, length, Option, Some, None, IsSome, is_some, slice_set, if◌then◌else◌, inl, inr, refl, sym, ap, ap₂, subst, ◌∙◌, arith}
 use Rattle.std.specs.List.{Contains}
 use Rattle.std.specs.Option.{option_map}
 use Rattle.std.proofs.lemmas.List.{get_or_past, get_or-set_same, get_or-set_other}
@@ -17,7 +17,7 @@ use Rattle.present_closure.specs.declared.environment.Environment.{Environment}
 use Rattle.present_closure.specs.declared.table.Held.{Held}
 use Rattle.present_closure.specs.Finding.{members}
 use Rattle.present_closure.specs.Sets.{IsEmpty, IsWith}
-use Rattle.present_closure.specs.Closing.{Table, held_at, word_at, value_of, IsBacked, IsSound, HasReadings, IsMeasured, IsClosable}
+use Rattle.present_closure.specs.Closing.{Table, held_at, value_of, IsBacked, IsSound, HasReadings, IsMeasured}
 
 same_cell : (c d : Cell) → is_cell c d ≡ true → c ≡ d
 same_cell c d e =

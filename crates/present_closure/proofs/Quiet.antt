@@ -1,18 +1,16 @@
 -- Where nothing is left to put in, the table is the closure of everything.
-use Rattle.std.proofs.Common.{◌≡◌, ◌≢◌, ℕ, zero, suc, ◌<◌, Bool, true, false, IsTrue, ◌&&◌, ◌==◌, nat_eq, List, [], ◌∷◌, length, map, Option, Some, None, is_some, slice_get, slice_index_or, if◌then◌else◌, refl, sym, ap, ap₂, subst, ◌∙◌, arith}
+use Rattle.std.proofs.Common.{◌≡◌, ℕ, zero, suc, List, [], ◌∷◌, map, Option, Some, None, slice_get, refl, sym, ap, subst, ◌∙◌, arith}
 use Rattle.std.specs.List.{Contains}
 use Rattle.std.specs.Option.{option_map}
-use Rattle.std.proofs.lemmas.Option.{slice_get-map}
-use Rattle.std.proofs.lemmas.Bool.Decides.{nat_tests}
 use Rattle.circuit_model.specs.declared.model.Cell.{Cell}
 use Rattle.circuit_model.specs.declared.model.Fact.{Fact}
 use Rattle.circuit_model.specs.declared.model.Instance.{Instance}
 use Rattle.circuit_model.specs.declared.model.Assumption.{Assumption}
 use Rattle.circuit_model.specs.declared.model.Assumption.TheVariants.{Part, Reading}
 use Rattle.circuit_model.specs.declared.present.Component.{Component}
-use Rattle.circuit_model.specs.Closure.{fact, AreHeld, AreTwoWords, IsForced, IsRefuted, Follows}
+use Rattle.circuit_model.specs.Closure.{fact, AreHeld, AreTwoWords}
 use Rattle.circuit_model.specs.Stock.{IsChosen, Has, IsRefutedBy}
-use Rattle.circuit_model.specs.Diagnoses.{Place, AtPart, AtCell}
+use Rattle.circuit_model.specs.Diagnoses.{AtPart, AtCell}
 use Rattle.circuit_model.specs.Present.{Setup, reading_in, IsFactOf}
 use Rattle.circuit_model.specs.Whole.{stock, everything}
 use Rattle.circuit_model.proofs.Rounds as rounds

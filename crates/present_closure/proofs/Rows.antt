@@ -1,6 +1,5 @@
 -- Rows of truth values.
 use Rattle.std.proofs.Common.{◌≡◌, ℕ, zero, suc, Bool, true, false, IsTrue, ◌==◌, ◌&&◌, slice_index_or, replicate, true≢false, sym, ◌∙◌, refl}
-use Rattle.circuit_model.specs.declared.model.Cell.{Cell}
 use Rattle.circuit_model.specs.Diagnoses.{AtPart, AtCell}
 use Rattle.present_closure.specs.declared.environment.Environment.{Environment}
 use Rattle.present_closure.specs.Finding.{members}

@@ -1,17 +1,17 @@
 -- The eight choices of ports are all that there are.
-use Rattle.std.proofs.Common.{◌≡◌, ℕ, zero, suc, ◌+◌, ◌<◌, ◌≤◌, Bool, true, false, ◌&&◌, nat_lt, if◌then◌else◌, List, [], ◌∷◌, length, Option, Some, None, is_some, slice_get, slice_index_or, refl, sym, ap, subst, below_more, ◌∙◌, arith}
-use Rattle.std.specs.Option.{option_map, option_and_then}
+use Rattle.std.proofs.Common.{◌≡◌, ℕ, zero, suc, ◌<◌, Bool, true, false, nat_lt, List, [], ◌∷◌, length, Option, Some, None, is_some, slice_get, slice_index_or, refl, sym, subst, ◌∙◌, arith}
+use Rattle.std.specs.Option.{option_map}
 use Rattle.std.proofs.lemmas.Option.{slice_get-get_or}
 use Rattle.std.proofs.lemmas.Bool.Decides.{nat_tests}
 use Rattle.circuit_model.specs.declared.model.Cell.{Cell}
 use Rattle.circuit_model.specs.declared.model.Instance.{Instance}
 use Rattle.circuit_model.specs.declared.model.Primitive.{Primitive}
-use Rattle.circuit_model.specs.Closure.{fact, AreHeld}
-use Rattle.circuit_model.specs.Inference.{ports_of, IsOfPorts, Matches, Forces, Refutes}
+use Rattle.circuit_model.specs.Closure.{AreHeld}
+use Rattle.circuit_model.specs.Inference.{IsOfPorts, Matches, Forces}
 use Rattle.present_closure.specs.declared.closing.TheConstants.{CHOICES}
 use Rattle.present_closure.specs.declared.table.Step.{Step}
 use Rattle.present_closure.specs.declared.table.Step.TheVariants.{Quiet, Grew, Clash}
-use Rattle.present_closure.specs.Closing.{Table, held_at, word_at, value_of, kept_at, kept, words_of, IsReady, IsIn, IsSettledAt, IsSettledFor, IsRefutedAt, PutsForced, Learns}
+use Rattle.present_closure.specs.Closing.{Table, word_at, value_of, kept_at, kept, words_of, IsReady, IsIn, IsSettledAt, IsSettledFor, Learns}
 use Rattle.present_closure.proofs.Choices.{Relates-length}
 
 -- where nothing was learnt, the table is the same and settled

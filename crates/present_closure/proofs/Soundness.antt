@@ -1,16 +1,12 @@
 -- What is taken from sound words is sound.
-use Rattle.std.proofs.Common.{◌≡◌, ◌≢◌, ℕ, zero, suc, ◌<◌, ◌^◌, inl, inr, Bool, true, false, IsTrue, List, [], ◌∷◌, length, map, Option, Some, None, IsSome, is_some, slice_get, get_or, refl, sym, ap, subst, ◌∙◌, arith}
-use Rattle.std.specs.List.{Contains}
+use Rattle.std.proofs.Common.{◌≡◌, ◌≢◌, ℕ, zero, suc, ◌<◌, ◌^◌, inl, inr, List, [], ◌∷◌, length, Option, Some, IsSome, is_some, slice_get, get_or, sym, ap, subst, ◌∙◌, arith}
 use Rattle.std.specs.Option.{option_map}
 use Rattle.std.proofs.lemmas.Option.{slice_get-get_or, slice_get_within}
 use Rattle.std.proofs.lemmas.List.{length-map}
 use Rattle.environment_sets.specs.Sets.{Set, ◌⊆◌}
 use Rattle.circuit_model.specs.declared.model.Cell.{Cell}
-use Rattle.circuit_model.specs.declared.model.Fact.{Fact}
 use Rattle.circuit_model.specs.declared.model.Instance.{Instance}
-use Rattle.circuit_model.specs.declared.model.Assumption.{Assumption}
-use Rattle.circuit_model.specs.declared.model.Assumption.TheVariants.{Part}
-use Rattle.circuit_model.specs.Closure.{fact, AreHeld, IsForced, IsRefuted, Follows}
+use Rattle.circuit_model.specs.Closure.{fact, AreHeld}
 use Rattle.circuit_model.specs.Inference.{Forces, Refutes, FitEach}
 use Rattle.circuit_model.specs.Kinds.{cell_at}
 use Rattle.circuit_model.specs.Stock.{IsChosen, IsEnvironment, Has, IsRefutedBy}
@@ -22,7 +18,7 @@ use Rattle.circuit_model.proofs.Rounds.{Follows-forced, Clashes-refuted, Clashes
 use Rattle.present_closure.specs.declared.environment.Environment.{Environment}
 use Rattle.present_closure.specs.declared.table.Held.{Held}
 use Rattle.present_closure.specs.Finding.{members}
-use Rattle.present_closure.specs.Closing.{Table, held_at, word_at, value_of, words_of, IsBacked, IsSound, IsInstanceAt, IsSupport, AreKept}
+use Rattle.present_closure.specs.Closing.{Table, held_at, value_of, words_of, IsBacked, IsSound, IsInstanceAt, IsSupport, AreKept}
 use Rattle.present_closure.proofs.Kept.{words_of_at}
 
 -- a word fits the width at its place in a tuple

@@ -1,21 +1,18 @@
 -- What a step of the closing comes to, in a sound table.
-use Rattle.std.proofs.Common.{◌≡◌, ◌≢◌, ℕ, zero, suc, ◌+◌, ◌<◌, ◌≤◌, ◌^◌, inl, inr, List, [], ◌∷◌, length, count_by, is_none, is_some, Option, Some, None, slice_get, slice_index_or, slice_set, refl, sym, ap, subst, ◌∙◌, if◌then◌else◌, arith}
+use Rattle.std.proofs.Common.{◌≡◌, ℕ, ◌+◌, ◌<◌, ◌^◌, inl, inr, length, count_by, is_none, Option, Some, None, slice_get, slice_set, refl, sym, ap, subst, ◌∙◌, if◌then◌else◌, arith}
 use Rattle.std.specs.Option.{option_map}
-use Rattle.std.specs.List.{Contains}
-use Rattle.std.proofs.lemmas.List.{length-set, get_or-set_same, get_or-set_other, get_or_past}
+use Rattle.std.proofs.lemmas.List.{length-set, get_or-set_same, get_or-set_other}
 use Rattle.std.proofs.lemmas.List.Sums.{sum_by-set}
-use Rattle.std.proofs.lemmas.Bool.{cases_eq, cases_lt}
+use Rattle.std.proofs.lemmas.Bool.{cases_eq}
 use Rattle.circuit_model.specs.declared.model.Cell.{Cell}
 use Rattle.circuit_model.specs.declared.model.Instance.{Instance}
-use Rattle.circuit_model.specs.declared.model.Fact.{Fact}
-use Rattle.circuit_model.specs.Closure.{fact}
 use Rattle.circuit_model.specs.Stock.{IsRefutedBy}
 use Rattle.circuit_model.specs.Present.{Setup, width_of}
 use Rattle.circuit_model.specs.Whole.{stock, everything}
 use Rattle.present_closure.specs.declared.table.Held.{Held}
 use Rattle.present_closure.specs.declared.table.Step.{Step}
 use Rattle.present_closure.specs.declared.table.Step.TheVariants.{Quiet, Grew, Clash}
-use Rattle.present_closure.specs.Closing.{Table, held_at, word_at, value_of, IsBacked, IsSound, IsInstanceAt, IsReady, Grows, PutsForced, IsRefutedAt, Learns, Tells, HasReadings, IsClosable, IsSettled, IsClosed}
+use Rattle.present_closure.specs.Closing.{Table, held_at, word_at, value_of, IsBacked, IsSound, IsInstanceAt, IsReady, Grows, PutsForced, Learns, Tells, HasReadings, IsClosable, IsSettled, IsClosed}
 use Rattle.present_closure.proofs.Quiet.{quiet_complete, quiet_consistent}
 use Rattle.present_closure.proofs.Soundness.{forced_backed, refuted_clash, two_words_clash}
 

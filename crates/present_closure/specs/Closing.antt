@@ -1,6 +1,6 @@
 -- Closing a present of one cycle, word by word.
 use Rattle.std.specs.Prelude.{◌≡◌, ◌≢◌, ℕ, ◌<◌, ◌^◌, ◌⊎◌, ◌&&◌, nat_lt, Bool, false, if◌then◌else◌, IsTrue, List, [], ◌∷◌, length, map, count_by, Option, Some, None, is_none, slice_get, slice_index_or, slice_set}
-use Rattle.std.specs.List.{Contains, All}
+use Rattle.std.specs.List.{Contains}
 use Rattle.std.specs.Option.{option_map, option_and_then}
 use Rattle.environment_sets.specs.Sets.{Set, ◌⊆◌}
 use Rattle.circuit_model.specs.declared.model.Cell.{Cell}
@@ -11,7 +11,7 @@ use Rattle.circuit_model.specs.declared.present.Component.{Component}
 use Rattle.circuit_model.specs.Closure.{fact, AreHeld}
 use Rattle.circuit_model.specs.Inference.{Forces, Refutes}
 use Rattle.circuit_model.specs.Lawful.{IsLawful}
-use Rattle.circuit_model.specs.Kinds.{cell_at, primitive_of}
+use Rattle.circuit_model.specs.Kinds.{cell_at}
 use Rattle.circuit_model.specs.Stock.{IsEnvironment, Has, IsRefutedBy}
 use Rattle.circuit_model.specs.Diagnoses.{Place, AtPart}
 use Rattle.circuit_model.specs.Present as present

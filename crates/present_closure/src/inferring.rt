@@ -108,9 +108,9 @@ fn support(place: u16, held: &[Option<Held>; 3]) -> Environment
     ensures { IsSupport place held.now (members result) }
 {
     let mut from = Environment::empty().with_part(place);
-    for held in held {
-        if let Some(held) = held {
-            from = from.union(held.from);
+    for entry in held {
+        if let Some(antecedent) = entry {
+            from = from.union(antecedent.from);
         }
     }
     from

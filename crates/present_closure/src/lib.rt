@@ -10,3 +10,6 @@ mod table;
 
 pub use environment::Environment;
 pub use finding::{Finding, find_value};
+
+#[cfg(test)]
+mod tests;

@@ -1,4 +1,4 @@
-use Rattle.std.proofs.Common.{◌≡◌, ℕ, ◌<◌, slice_get, below_more, arith}
+use Rattle.std.proofs.Common.{◌≡◌, ℕ, below_more, arith}
 use Rattle.std.proofs.lemmas.Option.{slice_get_within}
 use Rattle.present_closure.specs.Closing.{Table, IsSettledPlace}
 use Rattle.present_closure.proofs.Steps.{Tells-quiet}

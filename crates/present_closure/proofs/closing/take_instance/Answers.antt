@@ -1,4 +1,4 @@
-use Rattle.std.proofs.Common.{◌≡◌, ℕ, ◌<◌, List, Bool, [], slice_index_or, arith, below_more, subst}
+use Rattle.std.proofs.Common.{◌≡◌, ℕ, [], slice_index_or, arith, below_more}
 use Rattle.present_closure.specs.declared.closing.TheConstants.{CHOICES}
 use Rattle.present_closure.specs.Closing.{words_of, kept, Table, IsSettledAt}
 use Rattle.present_closure.proofs.Settling.{Learns-quiet, settled_for}

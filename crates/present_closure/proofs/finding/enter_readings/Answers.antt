@@ -1,5 +1,4 @@
-use Rattle.std.proofs.Common.{ℕ, ◌<◌, arith}
-use Rattle.present_closure.specs.Closing.{IsMeasured, held_at}
+use Rattle.std.proofs.Common.{arith}
 use Rattle.present_closure.proofs.Measured.{measured_more, measured_sound, measured_readings}
 use Rattle.present_closure.proofs.finding.enter_readings.Goals as goal
 

@@ -1,4 +1,4 @@
-use Rattle.std.proofs.Common.{◌≡◌, ℕ, ◌||◌, length, false, slice_index_or, ◌<◌, ◌≤◌}
+use Rattle.std.proofs.Common.{◌≡◌, ℕ, ◌||◌, false, slice_index_or, ◌<◌, ◌≤◌}
 use Rattle.present_closure.proofs.flags.add_all.Given as goal
 
 abbrev pub invariant-loop-place : goal.invariant-loop-place
