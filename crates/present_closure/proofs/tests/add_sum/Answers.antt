@@ -22,7 +22,7 @@ lawful_sum s name part a b z three first second third same alike made =
     let is_z = width_of-read s 2 z third in
     let below : ℕ → Type 0 = λ n. n < length s.nets in
     let widths : map (width_of s) (0 ∷ 1 ∷ 2 ∷ []) ≡ a.width ∷ b.width ∷ z.width ∷ [] =
-        ap (λ w. w ∷ width_of s 1 ∷ width_of s 2 ∷ []) is_a ∙ (ap (λ w. a.width ∷ w ∷ width_of s 2 ∷ []) is_b ∙ ap (λ w. a.width ∷ b.width ∷ w ∷ []) is_z) in
+    ap (λ w. w ∷ width_of s 1 ∷ width_of s 2 ∷ []) is_a ∙ (ap (λ w. a.width ∷ w ∷ width_of s 2 ∷ []) is_b ∙ ap (λ w. a.width ∷ b.width ∷ w ∷ []) is_z) in
     record {
       three = refl;
       nets = All-cons below 0 (1 ∷ 2 ∷ []) (omega arith) (All-cons below 1 (2 ∷ []) (omega arith) (All-cons below 2 [] (omega arith) (All-nil below)));
