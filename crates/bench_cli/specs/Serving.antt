@@ -2,7 +2,7 @@
 use Rattle.std.specs.Prelude.{◌≡◌, ℕ, ◌<◌, true, false, is_some, List, length, map}
 use Rattle.std.specs.List.{All, list_all}
 use Rattle.circuit_model.specs.Present.{Setup, net_named, width_of, with_part}
-use Rattle.circuit_model.specs.Kinds.{instances}
+use Rattle.circuit_model.specs.Kinds.{RepeatsLast, instances}
 use Rattle.circuit_model.specs.declared.model.Kind.{Kind}
 use Rattle.circuit_model.specs.declared.present.Component.{Component}
 use Rattle.bench_cli.specs.Replies.{Reply, Told, Refused, NoMemory}
@@ -12,8 +12,10 @@ use Rattle.bench_cli.specs.declared.replies.Answer.{Answer}
 use Rattle.bench_cli.specs.declared.replies.Answer.TheVariants as answer
 use Rattle.bench_cli.specs.declared.replies.Refusal.TheVariants.{NotBuilt}
 use Rattle.bench_cli.specs.declared.requests.Change.{Change}
+use Rattle.bench_cli.specs.declared.requests.Change.TheVariants.{Add}
 use Rattle.bench_cli.specs.declared.requests.Query.{Query}
 use Rattle.bench_cli.specs.declared.requests.Request.{Request}
+use Rattle.bench_cli.specs.declared.requests.Request.TheVariants as request
 
 -- each name is a net's, and these are their places
 pub record AreNets (s : Setup) (names : List (List ℕ)) (places : List ℕ) : Type 0 where
@@ -30,6 +32,15 @@ abbrev pub PlacesPart : Setup → Component → Answer → Setup → Type 0
 PlacesPart old component answer.Accepted new = new ≡ with_part component old
 PlacesPart old component answer.NoMemory new = new ≡ old
 PlacesPart old component answer new = ⊥
+
+-- unused places of a component's nets repeat the last one
+abbrev pub IsPadded : Change → Type 0
+IsPadded (Add name kind nets) = RepeatsLast kind nets
+IsPadded change = Unit {0}
+
+abbrev pub AsksPadded : Request → Type 0
+AsksPadded (request.Change change) = IsPadded change
+AsksPadded request = Unit {0}
 
 -- A check applies, and then nothing changes; or none does, and then the change is made or finds no memory.
 abbrev pub Changes : Setup → Change → Answer → Setup → Type 0

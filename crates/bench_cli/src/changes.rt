@@ -1,10 +1,10 @@
 // The changes of a present, each with its checks.
 ghost use Rattle.std.specs.Prelude.{◌≡◌, ◌≤◌, ◌<◌, ◌+◌, ◌*◌, ◌^◌, IfSome, MatchOption, map, nat_le, nat_lt, not, if◌then◌else◌, is_some, true, false, length, Some, None, ◌∷◌, []};
 ghost use Rattle.std.specs.List.{list_all, All};
-ghost use Rattle.circuit_model.specs.Kinds.{cell_at, are_widths, fits_value};
+ghost use Rattle.circuit_model.specs.Kinds.{RepeatsLast, cell_at, are_widths, fits_value};
 ghost use Rattle.circuit_model.specs.Present.{MOST_CYCLES, MOST_CELLS, MOST_PARTS, named_in, net_named, width_of, reading_in};
 ghost use Rattle.bench_cli.specs.State.{checks_of, checks_of_reading, some_applies, is_width, place_of};
-ghost use Rattle.bench_cli.specs.Serving.{Changes, AreNets, PlacesPart, part_of};
+ghost use Rattle.bench_cli.specs.Serving.{IsPadded, Changes, AreNets, PlacesPart, part_of};
 ghost use Rattle.bench_cli.specs.declared.requests.Change.TheVariants as change;
 
 use crate::replies::{Answer, Refusal};
@@ -171,6 +171,7 @@ fn place_part(
     requires free { named_in present.old name ≡ None }
     requires room { length present.old.parts < MOST_PARTS }
     requires within { All (λ place. place < length present.old.nets) places }
+    requires unused { RepeatsLast kind places }
     requires widths { widths ≡ map (width_of present.old) places }
     requires rule { are_widths kind widths ≡ true }
     requires value { fits_value kind widths ≡ true }
@@ -199,6 +200,7 @@ fn add_part(
     kind: Kind,
     nets: &[Name; 3],
 ) -> Answer
+    requires { RepeatsLast kind nets.now }
     ensures { Changes present.old (change.Add name.now kind nets.now) result present.new }
 {
     if has_name(present, name) {
@@ -216,6 +218,7 @@ fn add_part(
 
 /// Makes the change, unless a check applies to it.
 pub fn apply(present: &mut Present, alloc: Global, change: &Change) -> Answer
+    requires { IsPadded change.now }
     ensures { Changes present.old change.now result present.new }
 {
     match change {

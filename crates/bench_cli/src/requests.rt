@@ -1,6 +1,7 @@
 // What the lines of a session ask.
-ghost use Rattle.std.specs.Prelude.{◌≡◌, ◌≢◌, ℕ, List, [], ◌∷◌, MatchOption};
+ghost use Rattle.std.specs.Prelude.{◌≡◌, ◌≢◌, ℕ, List, [], ◌∷◌, MatchOption, IfSome};
 ghost use Rattle.bench_cli.specs.Grammar.{words_of, IsSilent};
+ghost use Rattle.bench_cli.specs.Serving.{AsksPadded};
 ghost use Rattle.bench_cli.specs.Requests.{AreNetWords, ArePartWords, AreMeasureWords, AreLabelWords, IsAsked};
 
 use crate::reading::{next_word, read_number};
@@ -121,7 +122,8 @@ fn read_label(bytes: &[u8]) -> Option<Name>
 // What a line asks that begins with a word that begins no comment.
 fn read_command(command: &[u8], rest: &[u8]) -> Option<Request>
     requires { IsSilent (command.now ∷ words_of rest.now) → ⊥ }
-    ensures { IsAsked (command.now ∷ words_of rest.now) result }
+    ensures asked { IsAsked (command.now ∷ words_of rest.now) result }
+    ensures padded { IfSome result AsksPadded }
 {
     if command == b"net".as_slice() {
         let (name, width) = read_net(rest)?;
@@ -152,7 +154,8 @@ fn read_command(command: &[u8], rest: &[u8]) -> Option<Request>
 
 /// What the line asks, if that is something that there is.
 pub fn read_request(line: &[u8]) -> Option<Request>
-    ensures { IsAsked (words_of line.now) result }
+    ensures asked { IsAsked (words_of line.now) result }
+    ensures padded { IfSome result AsksPadded }
 {
     let Some((command, rest)) = next_word(line) else {
         return Some(Request::Nothing);

@@ -3,7 +3,7 @@ ghost use Rattle.std.specs.Prelude.{◌≡◌, ◌≤◌, length, IfOk};
 ghost use Rattle.bench_io.specs.Lines.{LONGEST};
 ghost use Rattle.bench_cli.specs.State.{empty, Takes};
 ghost use Rattle.bench_cli.specs.Answers.{reply_of, IsWritable};
-ghost use Rattle.bench_cli.specs.Serving.{Serves, Asked};
+ghost use Rattle.bench_cli.specs.Serving.{AsksPadded, Serves, Asked};
 ghost use Rattle.bench_cli.specs.declared.requests.Query.TheVariants as query;
 
 use crate::changes::{self, net_of};
@@ -61,6 +61,7 @@ impl Bench {
 
     // Answers a request.
     fn serve(&mut self, request: &Request) -> Answer
+        requires { AsksPadded request.now }
         ensures serves { Serves self.old request.now (reply_of self.new result) self.new }
         ensures writable { IsWritable self.new result }
     {

@@ -105,6 +105,7 @@ module _ (n : Net) (s : Setup) where
   IsLawfulComponent-with_net c h = let e = sym (widths_with_net c.nets h.nets) in record {
     three = h.three;
     nets = All-weaker (λ k. k < length s.nets) (λ k. k < length (with_net n s).nets) fits_with_net c.nets h.nets;
+    unused = h.unused;
     widths = subst (λ (ws : List ℕ). IsTrue (are_widths c.kind ws)) e h.widths;
     value = subst (λ (ws : List ℕ). IsTrue (fits_value c.kind ws)) e h.value;
     part = subst (λ (ws : List ℕ). c.part ≡ instances c.kind c.nets ws s.cycles) e h.part;
@@ -141,7 +142,7 @@ IsLawful-with_net n s h free room cells name low high =
 
 module _ (c : Component) (s : Setup) where
   pub IsLawfulComponent-with_part : (d : Component) → IsLawfulComponent s d → IsLawfulComponent (with_part c s) d
-  IsLawfulComponent-with_part d h = record { three = h.three; nets = h.nets; widths = h.widths; value = h.value; part = h.part }
+  IsLawfulComponent-with_part d h = record { three = h.three; nets = h.nets; unused = h.unused; widths = h.widths; value = h.value; part = h.part }
 
   pub IsFactOf-with_part : (f : Fact) → IsFactOf s f → IsFactOf (with_part c s) f
   IsFactOf-with_part f h = record { net = h.net; cycle = h.cycle; fits = h.fits }

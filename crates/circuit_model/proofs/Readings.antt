@@ -87,7 +87,7 @@ reading_in-with_reading f (g ∷ readings) c free =
 
 module _ (f : Fact) (s : Setup) where
   IsLawfulComponent-with_standing : (c : Component) → IsLawfulComponent s c → IsLawfulComponent (with_standing f s) c
-  IsLawfulComponent-with_standing c h = record { three = h.three; nets = h.nets; widths = h.widths; value = h.value; part = h.part }
+  IsLawfulComponent-with_standing c h = record { three = h.three; nets = h.nets; unused = h.unused; widths = h.widths; value = h.value; part = h.part }
 
   IsFactOf-with_standing : (g : Fact) → IsFactOf s g → IsFactOf (with_standing f s) g
   IsFactOf-with_standing g h = record { net = h.net; cycle = h.cycle; fits = h.fits }

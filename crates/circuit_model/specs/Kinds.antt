@@ -1,5 +1,5 @@
 -- The kinds of components, and the instances that a component stands for.
-use Rattle.std.specs.Prelude.{ℕ, zero, suc, ◌+◌, ◌-◌, ◌^◌, ◌==◌, Bool, true, ◌&&◌, nat_lt, List, [], ◌∷◌, map, slice_index}
+use Rattle.std.specs.Prelude.{◌≡◌, slice_get, ℕ, zero, suc, ◌+◌, ◌-◌, ◌^◌, ◌==◌, Bool, true, ◌&&◌, nat_lt, List, [], ◌∷◌, map, slice_index}
 use Rattle.circuit_model.specs.declared.model.Cell.{Cell}
 use Rattle.circuit_model.specs.declared.model.Primitive.{Primitive}
 use Rattle.circuit_model.specs.declared.model.Primitive.TheVariants as prim
@@ -24,6 +24,14 @@ abbrev pub are_widths : Kind → List ℕ → Bool
 are_widths (Const value) widths = true
 are_widths Mul widths = slice_index widths 2 == slice_index widths 0 + slice_index widths 1
 are_widths _ widths = are_equal widths
+
+-- Of three places, those that are no port repeat the last port.
+abbrev pub RepeatsLast : {X : Type 0} → Kind → List X → Type 0
+RepeatsLast (Const value) xs = (slice_get xs 0 ≡ slice_get xs 1) × (slice_get xs 1 ≡ slice_get xs 2)
+RepeatsLast Buf xs = slice_get xs 1 ≡ slice_get xs 2
+RepeatsLast Not xs = slice_get xs 1 ≡ slice_get xs 2
+RepeatsLast (Reg reset) xs = slice_get xs 1 ≡ slice_get xs 2
+RepeatsLast _ xs = Unit {0}
 
 -- the kind's value, if it has one, fits the width of its last port
 abbrev pub fits_value : Kind → List ℕ → Bool

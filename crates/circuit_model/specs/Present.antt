@@ -11,7 +11,7 @@ use Rattle.circuit_model.specs.declared.present.Net.{Net}
 use Rattle.circuit_model.specs.declared.present.Named.{Named}
 use Rattle.circuit_model.specs.declared.present.Named.TheVariants as named
 use Rattle.circuit_model.specs.Names.{is_name}
-use Rattle.circuit_model.specs.Kinds.{are_widths, fits_value, instances}
+use Rattle.circuit_model.specs.Kinds.{RepeatsLast, are_widths, fits_value, instances}
 use Rattle.circuit_model.specs.Diagnoses.{Circuit}
 
 abbrev pub MOST_CYCLES : ℕ
@@ -92,10 +92,11 @@ with_part c s = record s { parts = s.parts ++ c ∷ [] }
 abbrev pub with_standing : Fact → Setup → Setup
 with_standing f s = record s { readings = with_reading f s.readings }
 
--- the nets are there, three places of them; their widths and the kind's value are lawful, and the part is the one by the rules
+-- the nets are there, three places of them, and unused places repeat the last one; their widths and the kind's value are lawful, and the part is the one by the rules
 pub record IsLawfulComponent (s : Setup) (c : Component) : Type 0 where
   pub three : length c.nets ≡ 3
   pub nets : All (λ n. n < length s.nets) c.nets
+  pub unused : RepeatsLast c.kind c.nets
   pub widths : IsTrue (are_widths c.kind (map (width_of s) c.nets))
   pub value : IsTrue (fits_value c.kind (map (width_of s) c.nets))
   pub part : c.part ≡ instances c.kind c.nets (map (width_of s) c.nets) s.cycles

@@ -20,6 +20,7 @@ lawful_sum s name part a z two first second same made =
     record {
       three = refl;
       nets = All-cons below 0 (0 ∷ 1 ∷ []) (omega arith) (All-cons below 0 (1 ∷ []) (omega arith) (All-cons below 1 [] (omega arith) (All-nil below)));
+      unused = tt;
       widths = and_from _ _ (eq-eqb _ _ refl) (eq-eqb _ _ (is_a ∙ (same ∙ sym is_z)));
       value = refl;
       part = made ∙ ap (λ ws. instances Add (0 ∷ 0 ∷ 1 ∷ []) ws s.cycles) (sym widths);

@@ -26,6 +26,7 @@ lawful_sum s name part a b z three first second third same alike made =
     record {
       three = refl;
       nets = All-cons below 0 (1 ∷ 2 ∷ []) (omega arith) (All-cons below 1 (2 ∷ []) (omega arith) (All-cons below 2 [] (omega arith) (All-nil below)));
+      unused = tt;
       widths = and_from _ _ (eq-eqb _ _ (is_a ∙ (same ∙ sym is_b))) (eq-eqb _ _ (is_b ∙ (alike ∙ sym is_z)));
       value = refl;
       part = made ∙ ap (λ ws. instances Add (0 ∷ 1 ∷ 2 ∷ []) ws s.cycles) (sym widths);

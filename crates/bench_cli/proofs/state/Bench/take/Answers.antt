@@ -5,4 +5,4 @@ use Rattle.bench_cli.proofs.state.Bench.take.Goals as goal
 
 pub returns-in-Some-clause-takes : goal.returns-in-Some-clause-takes
 returns-in-Some-clause-takes c =
-    takes c.args.self.now c.args.line.now c.in-Some.request (reply_of c.serve.new.self c.serve.result) c.serve.new.self (record { short = c.requires; printable = search rules }) c.in-Some.ensures c.serve.ensures.serves
+    takes c.args.self.now c.args.line.now c.in-Some.request (reply_of c.serve.new.self c.serve.result) c.serve.new.self (record { short = c.requires; printable = search rules }) c.in-Some.ensures.asked c.serve.ensures.serves
