@@ -11,3 +11,4 @@ pub mod Diagnoses
 pub mod Settled
 pub mod Renaming
 pub mod Listed
+pub mod Decided

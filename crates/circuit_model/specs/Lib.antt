@@ -11,6 +11,7 @@ pub mod Padding
 pub mod Whole
 pub mod Kept
 pub mod Settled
+pub mod Decided
 pub mod Renaming
 pub mod Load
 pub mod Probe

@@ -1,5 +1,6 @@
 // Laws of the definitions.
 
+ghost use Rattle.circuit_model.specs.Decided.{ListedLabelsDecide, ListedNogoodsDecide, SettledListsAreExact, LastRoundsAreClosures, LastRoundsDecideClashes};
 ghost use Rattle.circuit_model.specs.Diagnoses.{DiagnosesAreHittingSets, SomeDiagnosis, ReadingsAreConsistent};
 ghost use Rattle.circuit_model.specs.Laws.{ClosuresGrow, SubsetsAreConsistent, ClosuresAreClosed, LabelsOfAPart, NogoodsOfAPart, OneMoreForLabels, OneMoreForNogoods, ListedLabelsCover};
 ghost use Rattle.circuit_model.specs.Load.{LoadsGrow};
@@ -58,6 +59,33 @@ pub fn nogoods_are_the_same_under_other_names<N, M>()
 /// A list of exactly a label has a part of each consistent environment whose closure has the fact.
 pub fn listed_labels_cover()
     ensures { ListedLabelsCover }
+{}
+
+/// From a list of exactly a label: the closure of a consistent environment has the fact exactly where a listed
+/// environment is a part of it.
+pub fn listed_labels_decide()
+    ensures { ListedLabelsDecide }
+{}
+
+/// From a list of exactly the nogoods: an environment clashes exactly where a listed one is a part of it.
+pub fn listed_nogoods_decide()
+    ensures { ListedNogoodsDecide }
+{}
+
+/// Where nothing waits, what is kept is exactly the labels and the nogoods (de Kleer 1986: consistent, sound, complete
+/// and minimal).
+pub fn settled_lists_are_exact<N>()
+    ensures { SettledListsAreExact N }
+{}
+
+/// Where the next round adds nothing to a round, that round is the closure.
+pub fn last_rounds_are_closures<N>()
+    ensures { LastRoundsAreClosures N }
+{}
+
+/// Where the next round adds nothing to a round, an environment clashes exactly where it clashes at that round.
+pub fn last_rounds_decide_clashes<N>()
+    ensures { LastRoundsDecideClashes N }
 {}
 
 /// The diagnoses are exactly the minimal hitting sets of the conflicts (Reiter 1987).
