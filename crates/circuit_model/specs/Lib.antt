@@ -15,3 +15,4 @@ pub mod Decided
 pub mod Renaming
 pub mod Load
 pub mod Probe
+pub mod Derivation
