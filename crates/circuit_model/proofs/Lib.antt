@@ -12,3 +12,4 @@ pub mod Settled
 pub mod Renaming
 pub mod Listed
 pub mod Decided
+pub mod Splitting

@@ -16,3 +16,4 @@ pub mod Renaming
 pub mod Load
 pub mod Probe
 pub mod Derivation
+pub mod Splitting

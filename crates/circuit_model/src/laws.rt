@@ -5,6 +5,7 @@ ghost use Rattle.circuit_model.specs.Diagnoses.{DiagnosesAreHittingSets, SomeDia
 ghost use Rattle.circuit_model.specs.Laws.{ClosuresGrow, SubsetsAreConsistent, ClosuresAreClosed, LabelsOfAPart, NogoodsOfAPart, OneMoreForLabels, OneMoreForNogoods, ListedLabelsCover};
 ghost use Rattle.circuit_model.specs.Load.{LoadsGrow};
 ghost use Rattle.circuit_model.specs.Renaming.{RenamedLabels, RenamedNogoods};
+ghost use Rattle.circuit_model.specs.Splitting.{TwoWordsSplit};
 
 /// Monotony of closures: what follows from some assumptions follows from more of them too.
 pub fn fewer_assumptions_close_less<N>()
@@ -101,4 +102,10 @@ pub fn readings_are_consistent()
 /// Where the conflicts can be listed there is a diagnosis.
 pub fn there_is_a_diagnosis()
     ensures { SomeDiagnosis }
+{}
+
+/// A cell splits, which is that its score is below the square of the number of diagnoses, exactly where two of the
+/// predictions there are different words.
+pub fn two_words_split()
+    ensures { TwoWordsSplit }
 {}
