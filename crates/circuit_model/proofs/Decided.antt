@@ -1,8 +1,8 @@
 -- What lists, rounds and kept sets decide.
-use Rattle.std.proofs.Common.{◌≡◌, ℕ, zero, suc, ◌⊎◌, inl, inr, Bool, true, false, true≢false, IsTrue, refl, sym, subst, ◌∙◌, List, [], ◌∷◌}
+use Rattle.std.proofs.Common.{◌≡◌, ℕ, zero, suc, ◌⊎◌, inl, inr, true, false, true≢false, refl, sym, subst, ◌∙◌, List, [], ◌∷◌}
 use Rattle.circuit_model.specs.declared.model.Fact.{Fact}
 use Rattle.circuit_model.specs.declared.model.Assumption.{Assumption}
-use Rattle.circuit_model.specs.Closure.{IsForced, Holds, Follows, ClashesAt, Clashes}
+use Rattle.circuit_model.specs.Closure.{Holds, ClashesAt, Clashes}
 use Rattle.environment_sets.specs.Sets.{Set, ◌⊆◌, IsBelow, is_within}
 use Rattle.environment_sets.specs.Lists.{IsIn}
 use Rattle.environment_sets.proofs.Within.{within_holds, holds_within}

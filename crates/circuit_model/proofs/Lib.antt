@@ -13,3 +13,4 @@ pub mod Renaming
 pub mod Listed
 pub mod Decided
 pub mod Splitting
+pub mod Derivations

@@ -1,9 +1,9 @@
 -- Where a measurement would tell diagnoses apart.
-use Rattle.std.proofs.Common.{cond, ◌≡◌, ◌≢◌, ℕ, zero, suc, ◌+◌, ◌*◌, ◌<◌, ◌≤◌, ◌==◌, ◌⊎◌, inl, inr, true, false, refl, sym, List, [], ◌∷◌, length, Option, Some, None, slice_get, arith}
+use Rattle.std.proofs.Common.{cond, ◌≡◌, ◌≢◌, ℕ, zero, suc, ◌+◌, ◌*◌, ◌<◌, ◌≤◌, ◌⊎◌, inl, inr, refl, List, [], ◌∷◌, length, Option, Some, None, slice_get, arith}
 use Rattle.std.specs.List.{sum_by, count_by}
 use Rattle.std.proofs.lemmas.List.Sums.{sum_by-cons}
 use Rattle.std.proofs.lemmas.Bool.Decides.{nat_tests}
-use Rattle.circuit_model.specs.Probe.{is_word, is_silent, share, score}
+use Rattle.circuit_model.specs.Probe.{is_word, is_silent, share}
 use Rattle.circuit_model.specs.Splitting.{HasTwoWords, TwoWordsSplit}
 
 -- how many predict v or nothing

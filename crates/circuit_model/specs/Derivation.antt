@@ -9,8 +9,8 @@ use Rattle.circuit_model.specs.Inference.{Forces, Refutes}
 use Rattle.circuit_model.specs.Closure as closure
 use Rattle.circuit_model.specs.Closure.{fact, AreHeld, AreTwoWords, ClashesAt}
 use Rattle.environment_sets.specs.Sets.{Set}
-use Rattle.environment_sets.specs.Lists.{IsIn, IsListing}
-use Rattle.circuit_model.specs.Stock.{IsChosen}
+use Rattle.environment_sets.specs.Lists.{IsIn, IsRising}
+use Rattle.circuit_model.specs.Stock.{IsChosen, Has, IsRefutedBy}
 use Rattle.circuit_model.specs.Diagnoses.{Circuit, Place, AtPart, stock_of}
 use Rattle.circuit_model.specs.Present.{is_cell, is_cell_before}
 
@@ -144,10 +144,10 @@ module _ (P : Circuit) (E : Set Place) where
   IsSupport (Measured f) = IsAssumed (Reading f)
   IsSupport (Inferred f part instance ports from) = (n : ℕ) × IsRoundOf f (suc n) × IsFirst (Justifies (HoldsAt n) f) (justification part instance ports from)
 
-  -- the supports of some facts, of the facts that these are inferred from, and so on back to the measurements
-  pub data IsReached (facts : List Fact) : Step → Type 0 where
-    AtGoal : (s : Step) → IsSupport s → IsIn facts (fact_of s) → IsReached facts s
-    Behind : (s t : Step) → IsReached facts t → IsSupport s → IsIn (facts_behind t) (fact_of s) → IsReached facts s
+  -- the facts that are reached from some, backward along supports
+  pub data IsReached (facts : List Fact) : Fact → Type 0 where
+    AtStart : (f : Fact) → IsIn facts f → IsReached facts f
+    Behind : (s : Step) (f : Fact) → IsReached facts (fact_of s) → IsSupport s → IsIn (facts_behind s) f → IsReached facts f
 
   -- by round, then by cell, then by word
   pub record IsSooner (s t : Step) : Type 0 where
@@ -157,9 +157,12 @@ module _ (P : Circuit) (E : Set Place) where
     pub is_other : IsRoundOf (fact_of t) other
     pub sooner : (round < other) ⊎ ((round ≡ other) × IsTrue (is_fact_before (fact_of s) (fact_of t)))
 
-  -- all steps that lead to the facts along supports, in order, none twice
-  abbrev pub AreStepsTo : List Fact → List Step → Type 0
-  AreStepsTo facts = IsListing IsSooner (IsReached facts)
+  -- supports of exactly the facts that are reached from some, in order, no fact twice
+  pub record AreStepsTo (facts : List Fact) (steps : List Step) : Type 0 where
+    pub rising : IsRising IsSooner steps
+    pub supports : (s : Step) → IsIn steps s → IsSupport s
+    pub reached : (s : Step) → IsIn steps s → IsReached facts (fact_of s)
+    pub complete : (f : Fact) → IsReached facts f → (s : Step) × IsIn steps s × (fact_of s ≡ f)
 
   -- The clash at round n: the first cell with two words and its two least words; where no cell has two, the first
   -- justification that refutes.
@@ -170,12 +173,10 @@ module _ (P : Circuit) (E : Set Place) where
 
   -- the canonical derivation of a value: all that leads to it along supports
   pub record IsCanonicalOfValue (f : Fact) (d : Derivation) : Type 0 where
-    pub round : ℕ
-    pub is_round : IsRoundOf f round
     pub steps : AreStepsTo (f ∷ []) d.steps
     pub ending : d.ending ≡ Holds
 
-  -- the canonical derivation of a clash: of the clash at the first round with one, all that leads to its facts
+  -- the canonical derivation of a clash: the clash at the first round with one, and all that leads to its facts
   pub record IsCanonicalOfClash (d : Derivation) : Type 0 where
     pub round : ℕ
     pub is_round : IsFirstRound (ClashesAt IsAssumed) round
@@ -206,3 +207,15 @@ module _ (P : Circuit) (E : Set Place) where
   pub record IsValid (goal : Goal) (d : Derivation) : Type 0 where
     pub steps : AreValidAfter [] d.steps
     pub ending : IsValidEnding (map fact_of d.steps) goal d.ending
+
+  -- what the goal says of the environment
+  abbrev pub IsMet : Goal → Type 0
+  IsMet (Value f) = Has (stock_of P) f E
+  IsMet Clash = IsRefutedBy (stock_of P) E
+
+-- what has a valid derivation is so
+abbrev pub ValidDerivationsAreTrue : Type 0
+ValidDerivationsAreTrue = (P : Circuit) (E : Set Place) (goal : Goal) (d : Derivation) → IsValid P E goal d → IsMet P E goal
+
+abbrev pub CanonicalDerivationsAreValid : Type 0
+CanonicalDerivationsAreValid = (P : Circuit) (E : Set Place) (goal : Goal) (d : Derivation) → IsCanonical P E goal d → IsValid P E goal d

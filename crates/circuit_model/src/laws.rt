@@ -1,6 +1,7 @@
 // Laws of the definitions.
 
 ghost use Rattle.circuit_model.specs.Decided.{ListedLabelsDecide, ListedNogoodsDecide, SettledListsAreExact, LastRoundsAreClosures, LastRoundsDecideClashes};
+ghost use Rattle.circuit_model.specs.Derivation.{ValidDerivationsAreTrue, CanonicalDerivationsAreValid};
 ghost use Rattle.circuit_model.specs.Diagnoses.{DiagnosesAreHittingSets, SomeDiagnosis, ReadingsAreConsistent};
 ghost use Rattle.circuit_model.specs.Laws.{ClosuresGrow, SubsetsAreConsistent, ClosuresAreClosed, LabelsOfAPart, NogoodsOfAPart, OneMoreForLabels, OneMoreForNogoods, ListedLabelsCover};
 ghost use Rattle.circuit_model.specs.Load.{LoadsGrow};
@@ -108,4 +109,14 @@ pub fn there_is_a_diagnosis()
 /// predictions there are different words.
 pub fn two_words_split()
     ensures { TwoWordsSplit }
+{}
+
+/// A valid derivation is true: the closure has the value, or the environment clashes.
+pub fn valid_derivations_are_true()
+    ensures { ValidDerivationsAreTrue }
+{}
+
+/// A canonical derivation is valid.
+pub fn canonical_derivations_are_valid()
+    ensures { CanonicalDerivationsAreValid }
 {}
