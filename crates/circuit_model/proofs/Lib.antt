@@ -11,3 +11,6 @@ pub mod Diagnoses
 pub mod Settled
 pub mod Renaming
 pub mod Listed
+pub mod Decided
+pub mod Splitting
+pub mod Derivations

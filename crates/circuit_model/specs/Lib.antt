@@ -11,6 +11,9 @@ pub mod Padding
 pub mod Whole
 pub mod Kept
 pub mod Settled
+pub mod Decided
 pub mod Renaming
 pub mod Load
 pub mod Probe
+pub mod Derivation
+pub mod Splitting

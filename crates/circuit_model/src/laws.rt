@@ -1,9 +1,12 @@
 // Laws of the definitions.
 
+ghost use Rattle.circuit_model.specs.Decided.{ListedLabelsDecide, ListedNogoodsDecide, SettledListsAreExact, LastRoundsAreClosures, LastRoundsDecideClashes};
+ghost use Rattle.circuit_model.specs.Derivation.{ValidDerivationsAreTrue, CanonicalDerivationsAreValid};
 ghost use Rattle.circuit_model.specs.Diagnoses.{DiagnosesAreHittingSets, SomeDiagnosis, ReadingsAreConsistent};
 ghost use Rattle.circuit_model.specs.Laws.{ClosuresGrow, SubsetsAreConsistent, ClosuresAreClosed, LabelsOfAPart, NogoodsOfAPart, OneMoreForLabels, OneMoreForNogoods, ListedLabelsCover};
 ghost use Rattle.circuit_model.specs.Load.{LoadsGrow};
 ghost use Rattle.circuit_model.specs.Renaming.{RenamedLabels, RenamedNogoods};
+ghost use Rattle.circuit_model.specs.Splitting.{TwoWordsSplit};
 
 /// Monotony of closures: what follows from some assumptions follows from more of them too.
 pub fn fewer_assumptions_close_less<N>()
@@ -60,6 +63,33 @@ pub fn listed_labels_cover()
     ensures { ListedLabelsCover }
 {}
 
+/// From a list of exactly a label: the closure of a consistent environment has the fact exactly where a listed
+/// environment is a part of it.
+pub fn listed_labels_decide()
+    ensures { ListedLabelsDecide }
+{}
+
+/// From a list of exactly the nogoods: an environment clashes exactly where a listed one is a part of it.
+pub fn listed_nogoods_decide()
+    ensures { ListedNogoodsDecide }
+{}
+
+/// Where nothing waits, what is kept is exactly the labels and the nogoods (de Kleer 1986: consistent, sound, complete
+/// and minimal).
+pub fn settled_lists_are_exact<N>()
+    ensures { SettledListsAreExact N }
+{}
+
+/// Where the next round adds nothing to a round, that round is the closure.
+pub fn last_rounds_are_closures<N>()
+    ensures { LastRoundsAreClosures N }
+{}
+
+/// Where the next round adds nothing to a round, an environment clashes exactly where it clashes at that round.
+pub fn last_rounds_decide_clashes<N>()
+    ensures { LastRoundsDecideClashes N }
+{}
+
 /// The diagnoses are exactly the minimal hitting sets of the conflicts (Reiter 1987).
 pub fn diagnoses_are_hitting_sets()
     ensures { DiagnosesAreHittingSets }
@@ -73,4 +103,20 @@ pub fn readings_are_consistent()
 /// Where the conflicts can be listed there is a diagnosis.
 pub fn there_is_a_diagnosis()
     ensures { SomeDiagnosis }
+{}
+
+/// A cell splits, which is that its score is below the square of the number of diagnoses, exactly where two of the
+/// predictions there are different words.
+pub fn two_words_split()
+    ensures { TwoWordsSplit }
+{}
+
+/// A valid derivation is true: the closure has the value, or the environment clashes.
+pub fn valid_derivations_are_true()
+    ensures { ValidDerivationsAreTrue }
+{}
+
+/// A canonical derivation is valid.
+pub fn canonical_derivations_are_valid()
+    ensures { CanonicalDerivationsAreValid }
 {}

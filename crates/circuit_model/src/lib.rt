@@ -13,12 +13,14 @@ mod tests;
 
 pub use instances::instances_of;
 pub use laws::{
-    diagnoses_are_hitting_sets, fewer_assumptions_close_less,
+    canonical_derivations_are_valid, diagnoses_are_hitting_sets, fewer_assumptions_close_less,
     fewer_assumptions_have_no_larger_load, forced_facts_follow,
     labels_are_the_same_under_other_names, labels_of_fewer_assumptions,
-    labels_with_one_more_assumption, listed_labels_cover, nogoods_are_the_same_under_other_names,
-    nogoods_of_fewer_assumptions, nogoods_with_one_more_assumption,
-    part_of_a_consistent_environment, readings_are_consistent, there_is_a_diagnosis,
+    labels_with_one_more_assumption, last_rounds_are_closures, last_rounds_decide_clashes,
+    listed_labels_cover, listed_labels_decide, listed_nogoods_decide,
+    nogoods_are_the_same_under_other_names, nogoods_of_fewer_assumptions,
+    nogoods_with_one_more_assumption, part_of_a_consistent_environment, readings_are_consistent,
+    settled_lists_are_exact, there_is_a_diagnosis, two_words_split, valid_derivations_are_true,
 };
 pub use model::{Assumption, Cell, Fact, Instance, Kind, Part, Primitive as Prim};
 pub use name::Name;

@@ -1,0 +1,127 @@
+-- Where a measurement would tell diagnoses apart.
+use Rattle.std.proofs.Common.{cond, ◌≡◌, ◌≢◌, ℕ, zero, suc, ◌+◌, ◌*◌, ◌<◌, ◌≤◌, ◌⊎◌, inl, inr, refl, List, [], ◌∷◌, length, Option, Some, None, slice_get, arith}
+use Rattle.std.specs.List.{sum_by, count_by}
+use Rattle.std.proofs.lemmas.List.Sums.{sum_by-cons}
+use Rattle.std.proofs.lemmas.Bool.Decides.{nat_tests}
+use Rattle.circuit_model.specs.Probe.{is_word, is_silent, share}
+use Rattle.circuit_model.specs.Splitting.{HasTwoWords, TwoWordsSplit}
+
+-- how many predict v or nothing
+agreeing : ℕ → List (Option ℕ) → ℕ
+agreeing v xs = count_by (is_word v) xs + count_by is_silent xs
+
+agreeing-nil : (v : ℕ) → agreeing v [] ≡ 0
+unfolding agreeing
+agreeing-nil v = refl
+
+agreeing-silent : (v : ℕ) (xs : List (Option ℕ)) → agreeing v (None ∷ xs) ≡ suc (agreeing v xs)
+unfolding agreeing
+agreeing-silent v xs = omega (arith, sum_by-cons (λ o. cond (is_word v o) 1 0) None xs, sum_by-cons (λ o. cond (is_silent o) 1 0) None xs)
+
+agreeing-same : (v w : ℕ) (xs : List (Option ℕ)) → v ≡ w → agreeing v (Some w ∷ xs) ≡ suc (agreeing v xs)
+unfolding agreeing
+agreeing-same v w xs e = grind (arith, nat_tests, sum_by-cons (λ o. cond (is_word v o) 1 0) (Some w) xs, sum_by-cons (λ o. cond (is_silent o) 1 0) (Some w) xs)
+
+agreeing-other : (v w : ℕ) (xs : List (Option ℕ)) → v ≢ w → agreeing v (Some w ∷ xs) ≡ agreeing v xs
+unfolding agreeing
+agreeing-other v w xs d = grind (arith, nat_tests, sum_by-cons (λ o. cond (is_word v o) 1 0) (Some w) xs, sum_by-cons (λ o. cond (is_silent o) 1 0) (Some w) xs)
+
+eq_or_not : (v w : ℕ) → (v ≡ w) ⊎ (v ≢ w)
+eq_or_not v w = grind arith
+
+agreeing-le : (v : ℕ) (xs : List (Option ℕ)) → agreeing v xs ≤ length xs
+agreeing-le v [] = omega (arith, agreeing-nil v)
+agreeing-le v (None ∷ xs) = omega (arith, agreeing-silent v xs, agreeing-le v xs)
+agreeing-le v (Some w ∷ xs) = elim (eq_or_not v w) [
+  | inl e ↦ omega (arith, agreeing-same v w xs e, agreeing-le v xs)
+  | inr d ↦ omega (arith, agreeing-other v w xs d, agreeing-le v xs)
+]
+
+-- one that predicts another word does not agree
+agreeing-lt : (v w q : ℕ) (xs : List (Option ℕ)) → slice_get xs q ≡ Some (Some w) → v ≢ w → agreeing v xs < length xs
+agreeing-lt v w q [] at d = absurd (cc)
+agreeing-lt v w zero (None ∷ xs) at d = absurd (cc)
+agreeing-lt v w zero (Some u ∷ xs) at d = let e : u ≡ w = cc in omega (arith, agreeing-other v u xs (λ f. d (cc)), agreeing-le v xs)
+agreeing-lt v w (suc q) (None ∷ xs) at d = omega (arith, agreeing-silent v xs, agreeing-lt v w q xs at d)
+agreeing-lt v w (suc q) (Some u ∷ xs) at d = elim (eq_or_not v u) [
+  | inl e ↦ omega (arith, agreeing-same v u xs e, agreeing-lt v w q xs at d)
+  | inr f ↦ omega (arith, agreeing-other v u xs f, agreeing-lt v w q xs at d)
+]
+
+-- all agree, or some one predicts another word
+agreeing_or_not : (v : ℕ) (xs : List (Option ℕ)) → (agreeing v xs ≡ length xs) ⊎ ((q w : ℕ) × (slice_get xs q ≡ Some (Some w)) × (v ≢ w))
+agreeing_or_not v [] = inl (agreeing-nil v)
+agreeing_or_not v (None ∷ xs) = elim (agreeing_or_not v xs) [
+  | inl all ↦ inl (omega (arith, agreeing-silent v xs, all))
+  | inr other ↦ inr (suc other.0, other.1, other.2, other.3)
+]
+agreeing_or_not v (Some w ∷ xs) = elim (eq_or_not v w) [
+  | inr d ↦ inr (0, w, refl, d)
+  | inl e ↦ elim (agreeing_or_not v xs) [
+    | inl all ↦ inl (omega (arith, agreeing-same v w xs e, all))
+    | inr other ↦ inr (suc other.0, other.1, other.2, other.3)
+  ]
+]
+
+module _ (all : List (Option ℕ)) where
+  share-word : (v : ℕ) → share all (Some v) ≡ agreeing v all
+  unfolding agreeing
+  share-word v = refl
+
+  times : (n : ℕ) → suc n * length all ≡ length all + n * length all
+  times n = grind arith
+
+  total : List (Option ℕ) → ℕ
+  total xs = sum_by (share all) xs
+
+  total-nil : total [] ≡ 0
+  unfolding total
+  total-nil = refl
+
+  total-silent : (xs : List (Option ℕ)) → total (None ∷ xs) ≡ length all + total xs
+  unfolding total
+  total-silent xs = sum_by-cons (share all) None xs
+
+  total-word : (v : ℕ) (xs : List (Option ℕ)) → total (Some v ∷ xs) ≡ agreeing v all + total xs
+  unfolding total agreeing
+  total-word v xs = sum_by-cons (share all) (Some v) xs
+
+  total-le : (xs : List (Option ℕ)) → total xs ≤ length xs * length all
+  total-le [] = omega (arith, total-nil)
+  total-le (None ∷ xs) = omega (arith, total-silent xs, times (length xs), total-le xs)
+  total-le (Some v ∷ xs) = omega (arith, total-word v xs, times (length xs), total-le xs, agreeing-le v all)
+
+  total-lt : (p v q w : ℕ) (xs : List (Option ℕ)) → slice_get xs p ≡ Some (Some v) → slice_get all q ≡ Some (Some w) → v ≢ w → total xs < length xs * length all
+  total-lt p v q w [] here there d = absurd (cc)
+  total-lt zero v q w (None ∷ xs) here there d = absurd (cc)
+  total-lt zero v q w (Some u ∷ xs) here there d =
+      let e : u ≡ v = cc in omega (arith, total-word u xs, times (length xs), total-le xs, agreeing-lt u w q all there (λ f. d (cc)))
+  total-lt (suc p) v q w (None ∷ xs) here there d = omega (arith, total-silent xs, times (length xs), total-lt p v q w xs here there d)
+  total-lt (suc p) v q w (Some u ∷ xs) here there d = omega (arith, total-word u xs, times (length xs), total-lt p v q w xs here there d, agreeing-le u all)
+
+  abbrev Apart : List (Option ℕ) → Type 0
+  Apart xs = (p v q w : ℕ) × (slice_get xs p ≡ Some (Some v)) × (slice_get all q ≡ Some (Some w)) × (v ≢ w)
+
+  total_or_apart : (xs : List (Option ℕ)) → (total xs ≡ length xs * length all) ⊎ Apart xs
+  total_or_apart [] = inl (omega (arith, total-nil))
+  total_or_apart (None ∷ xs) = elim (total_or_apart xs) [
+    | inl e ↦ inl (omega (arith, total-silent xs, times (length xs), e))
+    | inr a ↦ inr (suc a.0, a.1, a.2, a.3, a.4, a.5, a.6)
+  ]
+  total_or_apart (Some v ∷ xs) = elim (agreeing_or_not v all) [
+    | inr other ↦ inr (0, v, other.0, other.1, refl, other.2, other.3)
+    | inl same ↦ elim (total_or_apart xs) [
+      | inl e ↦ inl (omega (arith, total-word v xs, times (length xs), e, same))
+      | inr a ↦ inr (suc a.0, a.1, a.2, a.3, a.4, a.5, a.6)
+    ]
+  ]
+
+  splits : total all < length all * length all → HasTwoWords all
+  splits less = elim (total_or_apart all) [
+    | inl e ↦ absurd (omega (arith, e))
+    | inr a ↦ record { place = a.0; word = a.1; at_place = a.4; other_place = a.2; other_word = a.3; at_other_place = a.5; differ = a.6 }
+  ]
+
+pub two_words_split : TwoWordsSplit
+unfolding total
+two_words_split all = (λ less. splits all less, λ (two : HasTwoWords all). total-lt all two.place two.word two.other_place two.other_word all two.at_place two.at_other_place two.differ)
