@@ -12,7 +12,7 @@ use Rattle.circuit_model.specs.Closure.{fact, AreHeld, IsForced, IsRefuted, Foll
 use Rattle.environment_sets.specs.Sets.{Set}
 use Rattle.environment_sets.specs.Lists.{IsIn, IsRising}
 use Rattle.circuit_model.specs.Diagnoses.{Circuit, Place, AtPart}
-use Rattle.circuit_model.specs.Derivation.{Justification, justification, Step, Measured, Inferred, Ending, Holds, TwoValues, Refuted, Goal, Value, Clash, fact_of, facts_behind, facts_in_clash, facts_at, IsAssumed, HoldsAt, IsRoundOf, IsOfInstance, Justifies, JustifiesClash, IsSupport, AtStart, Behind, IsSooner, AreStepsTo, IsClashOf, IsValidStep, AreValidAfter, IsValidEnding, IsMet, ValidDerivationsAreTrue, CanonicalDerivationsAreValid}
+use Rattle.circuit_model.specs.Derivation.{Justification, by_instance, Step, Measured, Inferred, Ending, Holds, TwoValues, Refuted, Goal, Value, Clash, fact_of, facts_behind, facts_in_clash, facts_at, IsAssumed, HoldsAt, IsRoundOf, IsOfInstance, Justifies, JustifiesClash, IsSupport, AtStart, Behind, IsSooner, AreStepsTo, IsClashOf, IsValidStep, AreValidAfter, IsValidEnding, IsMet, ValidDerivationsAreTrue, CanonicalDerivationsAreValid}
 use Rattle.circuit_model.proofs.Monotony.{IsForced-map, IsRefuted-map}
 use Rattle.circuit_model.proofs.Rounds.{Follows-forced, Clashes-refuted, Clashes-two_words}
 
@@ -65,7 +65,7 @@ module _ (P : Circuit) (E : Set Place) where
   step_true : (earlier : List Fact) → AreTrue earlier → (s : Step) → IsValidStep P E earlier s → Follows (IsAssumed P E) (fact_of s)
   step_true earlier sound (Measured f) h = (0, h)
   step_true earlier sound (Inferred f part instance ports from) h =
-      Follows-forced (IsAssumed P E) f (IsForced-map (λ a x. x) sound (forced (λ g. IsIn earlier g) f (justification part instance ports from) h))
+      Follows-forced (IsAssumed P E) f (IsForced-map (λ a x. x) sound (forced (λ g. IsIn earlier g) f (by_instance part instance ports from) h))
 
   steps_true : (earlier : List Fact) → AreTrue earlier → (steps : List Step) → AreValidAfter P E earlier steps → AreTrue (map fact_of steps)
   steps_true earlier sound [] valid f h = absurd h
@@ -84,7 +84,7 @@ module _ (P : Circuit) (E : Set Place) where
       let less : low < high = h.0 in
       Clashes-two_words (IsAssumed P E) (record { cell = c; low = low; high = high; low_holds = sound _ h.1; high_holds = sound _ h.2; differ = λ e. omega (arith, e, less) })
   ending_true shown sound Clash (Refuted part instance ports from) h =
-      Clashes-refuted (IsAssumed P E) (IsRefuted-map (λ a x. x) sound (refuted (λ g. IsIn shown g) (justification part instance ports from) h))
+      Clashes-refuted (IsAssumed P E) (IsRefuted-map (λ a x. x) sound (refuted (λ g. IsIn shown g) (by_instance part instance ports from) h))
 
   abbrev Behinds : List Fact → List Step → Type 0
   Behinds earlier steps = (s : Step) → IsIn steps s → (g : Fact) → IsIn (facts_behind s) g → IsIn earlier g ⊎ ((t : Step) × IsIn steps t × (fact_of t ≡ g))
@@ -110,7 +110,7 @@ module _ (P : Circuit) (E : Set Place) where
   head_valid : (earlier : List Fact) (s : Step) (steps : List Step) → ((t : Step) → IsIn steps t → IsSooner P E s t) → Behinds earlier (s ∷ steps) → IsSupport P E s → IsValidStep P E earlier s
   head_valid earlier (Measured f) steps rising behind h = h
   head_valid earlier (Inferred f part instance ports from) steps rising behind (n, round, best) =
-      let j : Justification = justification part instance ports from in
+      let j : Justification = by_instance part instance ports from in
       let s : Justifies P E (HoldsAt P E n) f j = best.holds in record {
         instance = s.instance;
         known = s.known;
@@ -160,7 +160,7 @@ module _ (P : Circuit) (E : Set Place) where
   clash_valid n Holds given in_given h = h
   clash_valid n (TwoValues c low high) given in_given h = (h.rising, in_given _ (inl refl), in_given _ (inr (inl refl)))
   clash_valid n (Refuted part instance ports from) given in_given h =
-      let j : Justification = justification part instance ports from in
+      let j : Justification = by_instance part instance ports from in
       let s : JustifiesClash P E (HoldsAt P E n) j = h.1.holds in record {
         instance = s.instance;
         known = s.known;

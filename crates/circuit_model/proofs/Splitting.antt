@@ -1,10 +1,19 @@
 -- Where a measurement would tell diagnoses apart.
-use Rattle.std.proofs.Common.{cond, ◌≡◌, ◌≢◌, ℕ, zero, suc, ◌+◌, ◌*◌, ◌<◌, ◌≤◌, ◌⊎◌, inl, inr, refl, List, [], ◌∷◌, length, Option, Some, None, slice_get, arith}
+use Rattle.std.proofs.Common.{cond, ◌≡◌, ◌≢◌, ℕ, zero, suc, ◌+◌, ◌*◌, ◌<◌, ◌≤◌, ◌⊎◌, inl, inr, refl, sym, ap, subst, List, [], ◌∷◌, length, Option, Some, None, slice_get, arith}
 use Rattle.std.specs.List.{sum_by, count_by}
 use Rattle.std.proofs.lemmas.List.Sums.{sum_by-cons}
 use Rattle.std.proofs.lemmas.Bool.Decides.{nat_tests}
 use Rattle.circuit_model.specs.Probe.{is_word, is_silent, share}
-use Rattle.circuit_model.specs.Splitting.{HasTwoWords, TwoWordsSplit}
+use Rattle.std.specs.List.{AllZip}
+use Rattle.std.proofs.lemmas.Slice.Zip.{AllZip-long}
+use Rattle.circuit_model.specs.declared.model.Cell.{Cell}
+use Rattle.environment_sets.specs.Sets.{Set, others}
+use Rattle.environment_sets.specs.Lists.{IsIn}
+use Rattle.circuit_model.specs.Stock.{IsChosen}
+use Rattle.circuit_model.specs.Diagnoses.{Circuit, stock_of, with_readings, IsDiagnosis}
+use Rattle.circuit_model.specs.Probe.{Predicts, IsPrediction, score, IsScore}
+use Rattle.circuit_model.specs.Splitting.{HasTwoWords, TwoWordsSplit, HasTwoPredictions, TwoPredictionsSplit}
+use Rattle.circuit_model.proofs.Rounds.{Clashes-two_words}
 
 -- how many predict v or nothing
 agreeing : ℕ → List (Option ℕ) → ℕ
@@ -125,3 +134,84 @@ module _ (all : List (Option ℕ)) where
 pub two_words_split : TwoWordsSplit
 unfolding total
 two_words_split all = (λ less. splits all less, λ (two : HasTwoWords all). total-lt all two.place two.word two.other_place two.other_word all two.at_place two.at_other_place two.differ)
+
+module _ (P : Circuit) (c : Cell) where
+  -- a diagnosis predicts one word at most
+  one_word : (D : Set ℕ) → IsDiagnosis P D → (v w : ℕ) → Predicts P c D v → Predicts P c D w → v ≡ w
+  one_word D is v w low high = elim (eq_or_not v w) [
+    | inl e ↦ e
+    | inr d ↦ absurd (is.minimal.holds (Clashes-two_words (IsChosen (stock_of P) (with_readings P (others (length P.parts) D))) (record {
+      cell = c;
+      low = v;
+      high = w;
+      low_holds = low;
+      high_holds = high;
+      differ = d;
+    })))
+  ]
+
+  abbrev AreOf : List (Set ℕ) → List (Option ℕ) → Type 0
+  AreOf Ds predictions = AllZip (λ D o. IsPrediction P c D o) Ds predictions
+
+  -- the diagnosis whose prediction stands at the place
+  predictor : (Ds : List (Set ℕ)) (predictions : List (Option ℕ)) → AreOf Ds predictions → (p w : ℕ) → slice_get predictions p ≡ Some (Some w) → (D : Set ℕ) × IsIn Ds D × Predicts P c D w
+  predictor [] [] each p w at = absurd (cc)
+  predictor [] (o ∷ predictions) each p w at = absurd each
+  predictor (D ∷ Ds) [] each p w at = absurd each
+  predictor (D ∷ Ds) (None ∷ predictions) each zero w at = absurd (cc)
+  predictor (D ∷ Ds) (Some u ∷ predictions) each zero w at = let e : u ≡ w = cc in let Q : ℕ → Type 0 = λ v. Predicts P c D v in (D, inl refl, subst Q e each.0)
+  predictor (D ∷ Ds) (o ∷ predictions) each (suc p) w at =
+      let r : (D : Set ℕ) × IsIn Ds D × Predicts P c D w = predictor Ds predictions each.1 p w at in (r.0, inr r.1, r.2)
+
+  -- the place at which the diagnosis' prediction stands
+  predicted : (Ds : List (Set ℕ)) (predictions : List (Option ℕ)) → AreOf Ds predictions → (D : Set ℕ) → IsIn Ds D → (p : ℕ) × (o : Option ℕ) × (slice_get predictions p ≡ Some o) × IsPrediction P c D o
+  predicted [] [] each D h = absurd h
+  predicted [] (o ∷ predictions) each D h = absurd each
+  predicted (F ∷ Ds) [] each D h = absurd each
+  predicted (F ∷ Ds) (o ∷ predictions) each D (inl e) = let Q : Set ℕ → Type 0 = λ G. IsPrediction P c G o in (0, o, refl, subst Q e each.0)
+  predicted (F ∷ Ds) (o ∷ predictions) each D (inr h) =
+      let r : (p : ℕ) × (o : Option ℕ) × (slice_get predictions p ≡ Some o) × IsPrediction P c D o = predicted Ds predictions each.1 D h in (suc r.0, r.1, r.2, r.3)
+
+  word_of : (predictions : List (Option ℕ)) (D : Set ℕ) → IsDiagnosis P D → (v : ℕ) → Predicts P c D v → (p : ℕ) (o : Option ℕ) → slice_get predictions p ≡ Some o → IsPrediction P c D o → slice_get predictions p ≡ Some (Some v)
+  word_of predictions D is v predicts p None at none = absurd (none v predicts)
+  word_of predictions D is v predicts p (Some u) at some = let e : u ≡ v = one_word D is u v some predicts in cc
+
+  module _ (n : ℕ) (s : IsScore P c n) where
+    predictions_of : HasTwoWords s.predictions → HasTwoPredictions P c
+    predictions_of two =
+        let a : (D : Set ℕ) × IsIn s.diagnoses D × Predicts P c D two.word = predictor s.diagnoses s.predictions s.each two.place two.word two.at_place in
+        let b : (D : Set ℕ) × IsIn s.diagnoses D × Predicts P c D two.other_word = predictor s.diagnoses s.predictions s.each two.other_place two.other_word two.at_other_place in record {
+          diagnosis = a.0;
+          is_diagnosis = (s.exact.exact a.0).0 a.1;
+          word = two.word;
+          predicts = a.2;
+          other = b.0;
+          is_other = (s.exact.exact b.0).0 b.1;
+          other_word = two.other_word;
+          other_predicts = b.2;
+          differ = two.differ;
+        }
+
+    words_of : HasTwoPredictions P c → HasTwoWords s.predictions
+    words_of two =
+        let a = predicted s.diagnoses s.predictions s.each two.diagnosis ((s.exact.exact two.diagnosis).1 two.is_diagnosis) in
+        let b = predicted s.diagnoses s.predictions s.each two.other ((s.exact.exact two.other).1 two.is_other) in record {
+          place = a.0;
+          word = two.word;
+          at_place = word_of s.predictions two.diagnosis two.is_diagnosis two.word two.predicts a.0 a.1 a.2 a.3;
+          other_place = b.0;
+          other_word = two.other_word;
+          at_other_place = word_of s.predictions two.other two.is_other two.other_word two.other_predicts b.0 b.1 b.2 b.3;
+          differ = two.differ;
+        }
+
+pub two_predictions_split : TwoPredictionsSplit
+two_predictions_split P c n s =
+    let long : length s.predictions ≡ length s.diagnoses = AllZip-long _ s.diagnoses s.predictions s.each in
+    let square : length s.predictions * length s.predictions ≡ length s.diagnoses * length s.diagnoses = ap (λ k. k * k) long in
+    let split = two_words_split s.predictions in (
+      λ (less : n < length s.diagnoses * length s.diagnoses). predictions_of P c n s (split.0 (let Q : ℕ → Type 0 = λ k. score s.predictions < k in subst Q (sym square) (let R : ℕ → Type 0 = λ k. k < length s.diagnoses * length s.diagnoses in subst R s.total less))),
+      λ (two : HasTwoPredictions P c). let R : ℕ → Type 0 = λ k. k < length s.diagnoses * length s.diagnoses in
+          let Q : ℕ → Type 0 = λ k. score s.predictions < k in
+          subst R (sym s.total) (subst Q square (split.1 (words_of P c n s two))),
+    )

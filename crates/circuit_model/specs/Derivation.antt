@@ -42,8 +42,8 @@ pub data Goal : Type 0 where
   Value : Fact → Goal
   Clash : Goal
 
-abbrev pub justification : (part instance ports : ℕ) → List Fact → Justification
-justification part instance ports from = record { part = part; instance = instance; ports = ports; from = from }
+abbrev pub by_instance : (part instance ports : ℕ) → List Fact → Justification
+by_instance part instance ports from = record { part = part; instance = instance; ports = ports; from = from }
 
 abbrev pub fact_of : Step → Fact
 fact_of (Measured f) = f
@@ -142,7 +142,7 @@ module _ (P : Circuit) (E : Set Place) where
   -- from words that held at the round before.
   abbrev pub IsSupport : Step → Type 0
   IsSupport (Measured f) = IsAssumed (Reading f)
-  IsSupport (Inferred f part instance ports from) = (n : ℕ) × IsRoundOf f (suc n) × IsFirst (Justifies (HoldsAt n) f) (justification part instance ports from)
+  IsSupport (Inferred f part instance ports from) = (n : ℕ) × IsRoundOf f (suc n) × IsFirst (Justifies (HoldsAt n) f) (by_instance part instance ports from)
 
   -- the facts that are reached from some, backward along supports
   pub data IsReached (facts : List Fact) : Fact → Type 0 where
@@ -169,7 +169,7 @@ module _ (P : Circuit) (E : Set Place) where
   abbrev pub IsClashOf : ℕ → Ending → Type 0
   IsClashOf n Holds = ⊥
   IsClashOf n (TwoValues c low high) = AreFirstTwoWords (HoldsAt n) c low high
-  IsClashOf n (Refuted part instance ports from) = (AreTwoWords (HoldsAt n) → ⊥) × IsFirst (JustifiesClash (HoldsAt n)) (justification part instance ports from)
+  IsClashOf n (Refuted part instance ports from) = (AreTwoWords (HoldsAt n) → ⊥) × IsFirst (JustifiesClash (HoldsAt n)) (by_instance part instance ports from)
 
   -- the canonical derivation of a value: all that leads to it along supports
   pub record IsCanonicalOfValue (f : Fact) (d : Derivation) : Type 0 where
@@ -190,7 +190,7 @@ module _ (P : Circuit) (E : Set Place) where
   -- a measurement of the environment, or forced by facts of earlier steps
   abbrev pub IsValidStep : List Fact → Step → Type 0
   IsValidStep earlier (Measured f) = IsAssumed (Reading f)
-  IsValidStep earlier (Inferred f part instance ports from) = Justifies (IsIn earlier) f (justification part instance ports from)
+  IsValidStep earlier (Inferred f part instance ports from) = Justifies (IsIn earlier) f (by_instance part instance ports from)
 
   -- each step is valid after those before it
   abbrev pub AreValidAfter : List Fact → List Step → Type 0
@@ -201,7 +201,7 @@ module _ (P : Circuit) (E : Set Place) where
   abbrev pub IsValidEnding : List Fact → Goal → Ending → Type 0
   IsValidEnding shown (Value f) Holds = IsIn shown f
   IsValidEnding shown Clash (TwoValues c low high) = (low < high) × IsIn shown (fact c low) × IsIn shown (fact c high)
-  IsValidEnding shown Clash (Refuted part instance ports from) = JustifiesClash (IsIn shown) (justification part instance ports from)
+  IsValidEnding shown Clash (Refuted part instance ports from) = JustifiesClash (IsIn shown) (by_instance part instance ports from)
   IsValidEnding shown _ _ = ⊥
 
   pub record IsValid (goal : Goal) (d : Derivation) : Type 0 where

@@ -6,7 +6,7 @@ ghost use Rattle.circuit_model.specs.Diagnoses.{DiagnosesAreHittingSets, SomeDia
 ghost use Rattle.circuit_model.specs.Laws.{ClosuresGrow, SubsetsAreConsistent, ClosuresAreClosed, LabelsOfAPart, NogoodsOfAPart, OneMoreForLabels, OneMoreForNogoods, ListedLabelsCover};
 ghost use Rattle.circuit_model.specs.Load.{LoadsGrow};
 ghost use Rattle.circuit_model.specs.Renaming.{RenamedLabels, RenamedNogoods};
-ghost use Rattle.circuit_model.specs.Splitting.{TwoWordsSplit};
+ghost use Rattle.circuit_model.specs.Splitting.{TwoWordsSplit, TwoPredictionsSplit};
 
 /// Monotony of closures: what follows from some assumptions follows from more of them too.
 pub fn fewer_assumptions_close_less<N>()
@@ -105,10 +105,15 @@ pub fn there_is_a_diagnosis()
     ensures { SomeDiagnosis }
 {}
 
-/// A cell splits, which is that its score is below the square of the number of diagnoses, exactly where two of the
-/// predictions there are different words.
+/// The score of some predictions is below the square of their number exactly where two of them are different words.
 pub fn two_words_split()
     ensures { TwoWordsSplit }
+{}
+
+/// A cell splits, which is that its score is below the square of the number of diagnoses, exactly where two diagnoses
+/// predict different words there.
+pub fn two_predictions_split()
+    ensures { TwoPredictionsSplit }
 {}
 
 /// A valid derivation is true: the closure has the value, or the environment clashes.

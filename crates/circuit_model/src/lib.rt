@@ -20,7 +20,8 @@ pub use laws::{
     listed_labels_cover, listed_labels_decide, listed_nogoods_decide,
     nogoods_are_the_same_under_other_names, nogoods_of_fewer_assumptions,
     nogoods_with_one_more_assumption, part_of_a_consistent_environment, readings_are_consistent,
-    settled_lists_are_exact, there_is_a_diagnosis, two_words_split, valid_derivations_are_true,
+    settled_lists_are_exact, there_is_a_diagnosis, two_predictions_split, two_words_split,
+    valid_derivations_are_true,
 };
 pub use model::{Assumption, Cell, Fact, Instance, Kind, Part, Primitive as Prim};
 pub use name::Name;
