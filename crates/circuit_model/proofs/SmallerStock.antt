@@ -1,5 +1,5 @@
 -- Labels and nogoods of a smaller stock.
-use Rattle.std.proofs.Common.{◌≡◌, Option, Some, None, IsSome, true≢false, IsFalse, ap, refl, sym, ◌∙◌}
+use Rattle.std.proofs.Common.{◌≡◌, Some, None, IsSome, true≢false, IsFalse, ap, refl, sym, ◌∙◌}
 use Rattle.circuit_model.specs.declared.model.Fact.{Fact}
 use Rattle.circuit_model.specs.declared.model.Assumption.{Assumption}
 use Rattle.environment_sets.specs.Sets.{Set, ◌⊆◌, IsMinimal}
