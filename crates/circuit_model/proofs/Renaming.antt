@@ -4,7 +4,7 @@ use Rattle.circuit_model.specs.declared.model.Fact.{Fact}
 use Rattle.circuit_model.specs.declared.model.Assumption.{Assumption}
 use Rattle.environment_sets.specs.Sets.{Set, ◌⊆◌, IsMinimal}
 use Rattle.circuit_model.specs.Stock.{Stock, IsChosen, IsEnvironment, Has, IsRefutedBy, IsInLabel, IsNogood}
-use Rattle.circuit_model.specs.Renaming.{passes, along, IsRenaming, RenamedLabels, RenamedNogoods}
+use Rattle.circuit_model.specs.Renaming.{passes, along, IsRenaming, RenamedClosures, RenamedClashes, RenamedLabels, RenamedNogoods}
 use Rattle.circuit_model.proofs.Settled.{same_set}
 use Rattle.circuit_model.proofs.Monotony.{Follows-map, Clashes-map}
 
@@ -107,3 +107,9 @@ pub renamed_nogoods : (N M : Type 0) → RenamedNogoods N M
 renamed_nogoods N M S R to back r E env =
     let same : along to (along back E) ≡ E = same_set _ E (round_back S R to back r E) (round S R to back r E env) in
     (nogood_to S R to back r E, λ (l : IsNogood R (along back E)). subst (IsNogood S) same (nogood_to R S back to (turned S R to back r) (along back E) l))
+
+pub renamed_closures : (N M : Type 0) → RenamedClosures N M
+renamed_closures N M S R to back r f E = (Follows-map (chosen_to S R to back r E) f, Follows-map (chosen_back S R to back r E) f)
+
+pub renamed_clashes : (N M : Type 0) → RenamedClashes N M
+renamed_clashes N M S R to back r E = (Clashes-map (chosen_to S R to back r E), Clashes-map (chosen_back S R to back r E))

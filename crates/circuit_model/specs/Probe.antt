@@ -1,5 +1,5 @@
 -- The best next measurement.
-use Rattle.std.specs.Prelude.{◌≡◌, ℕ, zero, suc, ◌+◌, ◌==◌, Bool, true, false, List, [], ◌∷◌, length, Option, Some, None, MatchOption}
+use Rattle.std.specs.Prelude.{◌≡◌, ℕ, zero, suc, ◌+◌, ◌==◌, Bool, true, false, List, [], ◌∷◌, length, Option, Some, None, MatchOption, ◌*◌, ◌<◌, ◌≤◌, IsTrue}
 use Rattle.std.specs.List.{sum_by, count_by, AllZip}
 use Rattle.circuit_model.specs.declared.model.Cell.{Cell}
 use Rattle.circuit_model.specs.Closure.{fact}
@@ -7,6 +7,7 @@ use Rattle.environment_sets.specs.Sets.{Set, others}
 use Rattle.environment_sets.specs.Lists.{IsListing}
 use Rattle.environment_sets.specs.Orders.{ComesBefore}
 use Rattle.circuit_model.specs.Stock.{Has}
+use Rattle.circuit_model.specs.Present.{Setup, is_cell_before, reading_in, circuit_of}
 use Rattle.circuit_model.specs.Diagnoses.{Circuit, stock_of, with_readings, IsConflict, IsDiagnosis}
 
 abbrev pub up_to : ℕ → ℕ → List ℕ
@@ -51,3 +52,24 @@ pub record IsScore (P : Circuit) (c : Cell) (n : ℕ) : Type 0 where
   pub predictions : List (Option ℕ)
   pub each : AllZip (λ D o. IsPrediction P c D o) diagnoses predictions
   pub total : n ≡ score predictions
+
+-- a cell of the present at which nothing is measured
+pub record IsUnmeasured (s : Setup) (c : Cell) : Type 0 where
+  pub net : c.net < length s.nets
+  pub cycle : c.cycle < s.cycles
+  pub open_cell : reading_in s.readings c ≡ None
+
+-- the number of diagnoses, squared
+pub record IsTotal (P : Circuit) (n : ℕ) : Type 0 where
+  pub diagnoses : List (Set ℕ)
+  pub exact : AreDiagnoses P diagnoses
+  pub squared : n ≡ length diagnoses * length diagnoses
+
+-- The best probe: an unmeasured cell that splits with the least score, the earlier one at a tie.
+pub record IsBestProbe (s : Setup) (c : Cell) (n total : ℕ) : Type 0 where
+  pub unmeasured : IsUnmeasured s c
+  pub scored : IsScore (circuit_of s) c n
+  pub totalled : IsTotal (circuit_of s) total
+  pub splits : n < total
+  pub least : (d : Cell) (m : ℕ) → IsUnmeasured s d → IsScore (circuit_of s) d m → n ≤ m
+  pub first : (d : Cell) → IsUnmeasured s d → IsScore (circuit_of s) d n → IsTrue (is_cell_before d c) → ⊥

@@ -2,7 +2,7 @@
 use Rattle.std.specs.Prelude.{◌≡◌, Bool, false, ◌↔◌, Option, Some, None, IsSome}
 use Rattle.circuit_model.specs.declared.model.Fact.{Fact}
 use Rattle.environment_sets.specs.Sets.{Set}
-use Rattle.circuit_model.specs.Stock.{Stock, IsEnvironment, IsInLabel, IsNogood}
+use Rattle.circuit_model.specs.Stock.{Stock, IsEnvironment, Has, IsRefutedBy, IsInLabel, IsNogood}
 
 -- the test's answer at the value, if there is one
 abbrev pub passes : {A : Type 0} → (A → Bool) → Option A → Bool
@@ -23,6 +23,12 @@ module _ {N M : Type 0} where
     pub same : (k : N) (m : M) → to k ≡ Some m → S k ≡ R m
 
 module _ (N M : Type 0) where
+  abbrev pub RenamedClosures : Type 0
+  RenamedClosures = (S : Stock N) (R : Stock M) (to : N → Option M) (back : M → Option N) → IsRenaming S R to back → (f : Fact) (E : Set N) → Has S f E ↔ Has R f (along back E)
+
+  abbrev pub RenamedClashes : Type 0
+  RenamedClashes = (S : Stock N) (R : Stock M) (to : N → Option M) (back : M → Option N) → IsRenaming S R to back → (E : Set N) → IsRefutedBy S E ↔ IsRefutedBy R (along back E)
+
   abbrev pub RenamedLabels : Type 0
   RenamedLabels = (S : Stock N) (R : Stock M) (to : N → Option M) (back : M → Option N) → IsRenaming S R to back → (f : Fact) (E : Set N) → IsEnvironment S E → IsInLabel S f E ↔ IsInLabel R f (along back E)
 

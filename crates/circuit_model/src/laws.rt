@@ -5,7 +5,7 @@ ghost use Rattle.circuit_model.specs.Derivation.{ValidDerivationsAreTrue, Canoni
 ghost use Rattle.circuit_model.specs.Diagnoses.{DiagnosesAreHittingSets, SomeDiagnosis, ReadingsAreConsistent};
 ghost use Rattle.circuit_model.specs.Laws.{ClosuresGrow, SubsetsAreConsistent, ClosuresAreClosed, LabelsOfAPart, NogoodsOfAPart, OneMoreForLabels, OneMoreForNogoods, ListedLabelsCover};
 ghost use Rattle.circuit_model.specs.Load.{LoadsGrow};
-ghost use Rattle.circuit_model.specs.Renaming.{RenamedLabels, RenamedNogoods};
+ghost use Rattle.circuit_model.specs.Renaming.{RenamedClosures, RenamedClashes, RenamedLabels, RenamedNogoods};
 ghost use Rattle.circuit_model.specs.Splitting.{TwoWordsSplit, TwoPredictionsSplit};
 
 /// Monotony of closures: what follows from some assumptions follows from more of them too.
@@ -46,6 +46,16 @@ pub fn labels_with_one_more_assumption<N>()
 /// A further assumption alters only the nogoods that name it.
 pub fn nogoods_with_one_more_assumption<N>()
     ensures { OneMoreForNogoods N }
+{}
+
+/// Closures are the same under other names.
+pub fn closures_are_the_same_under_other_names<N, M>()
+    ensures { RenamedClosures N M }
+{}
+
+/// What clashes is the same under other names.
+pub fn clashes_are_the_same_under_other_names<N, M>()
+    ensures { RenamedClashes N M }
 {}
 
 /// Labels are the same under other names.

@@ -13,8 +13,9 @@ mod tests;
 
 pub use instances::instances_of;
 pub use laws::{
-    canonical_derivations_are_valid, diagnoses_are_hitting_sets, fewer_assumptions_close_less,
-    fewer_assumptions_have_no_larger_load, forced_facts_follow,
+    canonical_derivations_are_valid, clashes_are_the_same_under_other_names,
+    closures_are_the_same_under_other_names, diagnoses_are_hitting_sets,
+    fewer_assumptions_close_less, fewer_assumptions_have_no_larger_load, forced_facts_follow,
     labels_are_the_same_under_other_names, labels_of_fewer_assumptions,
     labels_with_one_more_assumption, last_rounds_are_closures, last_rounds_decide_clashes,
     listed_labels_cover, listed_labels_decide, listed_nogoods_decide,
