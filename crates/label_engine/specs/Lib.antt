@@ -1,1 +1,3 @@
 pub mod Labels
+pub mod Work
+pub mod EverySlot

@@ -1,4 +1,6 @@
 // Labels and nogoods over all remembered assumptions, kept exact.
 #![tactic(auto)]
 
+mod every_slot;
 mod labels;
+mod work;
