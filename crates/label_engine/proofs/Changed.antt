@@ -1,5 +1,5 @@
 -- What the changes of labels leave.
-use Rattle.std.proofs.Common.{◌≡◌, ℕ, ◌⊎◌, inl, inr, refl, sym, ap, subst, ◌∙◌, ◌↔◌, List, get_or, set, position, Some, None, Result, Ok}
+use Rattle.std.proofs.Common.{◌≡◌, ℕ, ap, subst, ◌∙◌, ◌↔◌, List, get_or, set, position, Some, None, Result, Ok}
 use Rattle.circuit_model.specs.declared.model.Fact.{Fact}
 use Rattle.environment_sets.specs.declared.environment.Env.{Env}
 use Rattle.environment_sets.specs.Sets.{Set, ◌⊆◌}
@@ -7,7 +7,7 @@ use Rattle.environment_sets.specs.Members.{members, HasMember}
 use Rattle.antichains.specs.declared.antichain.OutOfMemory.{OutOfMemory}
 use Rattle.antichains.specs.declared.antichain.Inserted.{Inserted}
 use Rattle.antichains.specs.declared.antichain.Inserted.TheVariants.{Covered, Added}
-use Rattle.antichains.specs.Families.{Covers, Adds, Drops}
+use Rattle.antichains.specs.Families.{Covers, Adds}
 use Rattle.propagation.specs.Propagating.{IsPut}
 use Rattle.label_engine.specs.declared.labels.Node.{Node}
 use Rattle.label_engine.specs.declared.labels.Labels.{Labels}

@@ -1,8 +1,6 @@
 -- What lists hold, as families.
-use Rattle.std.proofs.Common.{◌≡◌, ℕ, ◌⊎◌, inl, inr, Bool, true, false, ◌||◌, cond, IsTrue, IsFalse, true≢false, refl, sym, ap, subst, ◌∙◌, List, [], ◌∷◌, ◌++◌, map, filter, Some, None, take, drop}
+use Rattle.std.proofs.Common.{◌≡◌, ℕ, ◌⊎◌, inl, inr, Bool, true, false, ◌||◌, cond, IsTrue, IsFalse, true≢false, refl, sym, ap, subst, ◌∙◌, List, [], ◌∷◌, ◌++◌, map, filter, Some, None}
 use Rattle.std.specs.List.{list_any, find}
-use Rattle.std.proofs.lemmas.List.{take-append-drop, map-append}
-use Rattle.std.proofs.lemmas.List.Folds.{find-append}
 use mathlib.Core.Path.{fun_ext}
 use Rattle.circuit_model.specs.declared.model.Fact.{Fact}
 use Rattle.circuit_model.specs.Settled.{IsCovered}
@@ -13,7 +11,7 @@ use Rattle.environment_sets.specs.Members.{members, HasMember}
 use Rattle.environment_sets.specs.Lists.{IsIn}
 use Rattle.environment_sets.proofs.Slots.{slots_are_below}
 use Rattle.environment_sets.proofs.Within.{within_holds, holds_within}
-use Rattle.propagation.specs.Propagating.{Target, Family, IsReached}
+use Rattle.propagation.specs.Propagating.{Target, IsReached}
 use Rattle.label_engine.specs.declared.labels.Node.{Node}
 use Rattle.label_engine.specs.declared.labels.Labels.{Labels}
 use Rattle.label_engine.specs.Labels.{is_same, facts_of, envs_of, label_of, KeptIn, covers, reaches}
@@ -99,7 +97,6 @@ same_target (Some f) (Some g) h = ap (λ x. Some x) (same_fact f g h)
 pub target_same : (t s : Target) → t ≡ s → IsTrue (is_same_target t s)
 target_same t s e = let P : Target → Type 0 = λ q. IsTrue (is_same_target t q) in subst P e (elim t as (λ q. IsTrue (is_same_target q q)) [ None ↦ refl | Some f ↦ fact_same f ])
 
-
 -- the test says whether a set is reached
 covers_is : (es : List Env) (E : Set ℕ) → IsTrue (covers es E) → IsCovered (HasMember es) E
 covers_is es E h =
@@ -152,3 +149,13 @@ label_of-met (n ∷ nodes) f g =
       | true ↦ refl
       | false ↦ label_of-met nodes f g
     ]
+
+pub alive_is : (nodes : List Node) (f : Fact) → IsTrue (list_any (λ n. is_same n.fact f) nodes) → IsIn (facts_of nodes) f
+alive_is nodes f h =
+    let n : (n : Node) × IsIn nodes n × IsTrue (is_same n.fact f) = some_of (λ n. is_same n.fact f) nodes h in
+    subst (IsIn (facts_of nodes)) (same_fact n.0.fact f n.2) (in_map (λ (x : Node). x.fact) nodes n.0 n.1)
+
+pub dead_is : (nodes : List Node) (f : Fact) → IsFalse (list_any (λ n. is_same n.fact f) nodes) → IsIn (facts_of nodes) f → ⊥
+dead_is nodes f out i =
+    let n : (n : Node) × IsIn nodes n × (n.fact ≡ f) = of_map (λ (x : Node). x.fact) nodes f i in
+    true≢false (sym (any_of (λ x. is_same x.fact f) nodes n.0 n.1 (fact_same_of n.0.fact f n.2)) ∙ out)

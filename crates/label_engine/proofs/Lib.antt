@@ -4,3 +4,6 @@ pub mod Changed
 pub mod Families
 pub mod Picks
 pub mod Holding
+pub mod Walked
+pub mod Pieces
+pub mod Assuming

@@ -1,9 +1,9 @@
 -- The labels of lists of nodes.
-use Rattle.std.proofs.Common.{◌≡◌, ℕ, suc, ◌+◌, ◌<◌, ◌≤◌, ◌⊎◌, inl, inr, Bool, true, false, ◌==◌, ◌&&◌, cond, nat_lt, IsTrue, true≢false, refl, sym, ap, ap₂, subst, ◌∙◌, ◌↔◌, List, [], ◌∷◌, ◌++◌, map, length, take, drop, take_all, get_or, set, position, Option, Some, None, IsSome, arith}
-use Rattle.std.specs.List.{list_any, find, position_or_len, slice_get}
+use Rattle.std.proofs.Common.{◌≡◌, ℕ, ◌+◌, ◌<◌, ◌≤◌, ◌⊎◌, inl, inr, Bool, true, false, ◌==◌, ◌&&◌, cond, nat_lt, IsTrue, true≢false, refl, sym, ap, ap₂, subst, ◌∙◌, List, [], ◌∷◌, ◌++◌, length, take, drop, take_all, get_or, set, position, Some, None, IsSome, arith}
+use Rattle.std.specs.List.{find, position_or_len, slice_get}
 use Rattle.std.proofs.lemmas.Bool.Decides.{nat_tests}
 use Rattle.std.proofs.lemmas.List.{take_more, take_more_set, drop_more, drop-set-lt}
-use Rattle.std.proofs.lemmas.List.Folds.{find_at, find-set, find_past, find-append}
+use Rattle.std.proofs.lemmas.List.Folds.{find_at, find-set, find_past}
 use Rattle.std.proofs.lemmas.Option.{slice_get_past, slice_get-get_or}
 use Rattle.std.proofs.lemmas.List.Quantifiers.{position-Some}
 use Rattle.circuit_model.specs.declared.model.Cell.{Cell}

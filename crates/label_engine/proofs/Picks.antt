@@ -1,12 +1,11 @@
 -- An item is carried out.
-use Rattle.std.proofs.Common.{◌≡◌, ℕ, ◌⊎◌, inl, inr, true, false, ◌==◌, cond, IsTrue, IsFalse, true≢false, refl, sym, ap, subst, ◌∙◌, List, [], ◌∷◌, ◌++◌, Option, Some, None, arith}
+use Rattle.std.proofs.Common.{◌≡◌, ℕ, ◌⊎◌, inl, inr, true, false, ◌==◌, cond, IsTrue, true≢false, refl, sym, ap, subst, ◌∙◌, List, [], ◌∷◌, ◌++◌, Option, Some, None, arith}
 use Rattle.std.proofs.lemmas.Bool.Decides.{nat_tests}
 use Rattle.circuit_model.specs.declared.model.Fact.{Fact}
 use Rattle.circuit_model.specs.declared.model.Assumption.{Assumption}
 use Rattle.circuit_model.specs.Stock.{Stock, IsEnvironment, Has}
-use Rattle.environment_sets.specs.declared.environment.Env.{Env}
 use Rattle.environment_sets.specs.Sets.{Set, ◌⊆◌, ◌∪◌, no_elements}
-use Rattle.environment_sets.specs.Members.{members, HasMember}
+use Rattle.environment_sets.specs.Members.{members}
 use Rattle.environment_sets.specs.Lists.{IsIn}
 use Rattle.propagation.specs.Propagating.{Target, Inference, HasAt, Leads, HasMaker, AreChosen, SomeWaits, IsDue}
 use Rattle.propagation.proofs.Unions.{leads_on, has_more, maker_some}
@@ -16,7 +15,7 @@ use Rattle.label_engine.specs.declared.labels.Due.{Due}
 use Rattle.label_engine.specs.declared.work.Inferred.{Inferred}
 use Rattle.label_engine.specs.declared.work.Item.{Item}
 use Rattle.label_engine.specs.Labels.{facts_of, KeptIn}
-use Rattle.label_engine.specs.Work.{stock, is_same_target, facts, inference, partner, made_by, DueIn, RecordedIn, WaitsIn, Holds, IsUnion, HasUnions, HasUnionsWith}
+use Rattle.label_engine.specs.Work.{stock, is_same_target, facts, inference, partner, made_by, DueIn, RecordedIn, WaitsIn, Holds, IsUnion, HasUnions}
 use Rattle.label_engine.proofs.Families.{in_front, in_back, in_either, either, either_left, either_right, same_target, target_same}
 
 maker_is : (maker : Option ℕ) (n : ℕ) → IsTrue (made_by maker n) → maker ≡ Some n

@@ -1,5 +1,5 @@
 -- What is put in at a fact or as a nogood, over families.
-use Rattle.std.proofs.Common.{◌≡◌, ℕ, ◌⊎◌, inl, inr, sym, subst, ◌∙◌, ◌↔◌, Some, None, refl, ap}
+use Rattle.std.proofs.Common.{◌≡◌, ℕ, ◌⊎◌, inl, inr, subst, ◌↔◌, Some, None, refl}
 use Rattle.circuit_model.specs.declared.model.Fact.{Fact}
 use Rattle.environment_sets.specs.Sets.{Set, ◌⊆◌}
 use Rattle.antichains.specs.Families.{Adds, Drops}

@@ -169,3 +169,35 @@ pub record IsPutThere (due : Due) (old new : Work) : Type 0 where
   pub recorded : new.recorded.items ≡ old.recorded.items
   pub due_same : new.due.items ≡ old.due.items
   pub slot : new.slot ≡ old.slot
+
+-- the labels and the nogoods are as before
+pub record KeptInSame (old new : Work) : Type 0 where
+  pub labels : (f : Fact) → label_of new.labels.nodes.items f ≡ label_of old.labels.nodes.items f
+  pub nogoods : new.labels.nogoods ≡ old.labels.nogoods
+
+pub record IsEnlivened (slots : List (Option Assumption)) (f : Fact) (old new : Work) : Type 0 where
+  pub found : List Inferred
+  pub are_found : AreFound slots (facts_of old.labels.nodes.items) f found
+  pub recorded : new.recorded.items ≡ old.recorded.items ++ found
+  pub alive : facts_of new.labels.nodes.items ≡ facts_of old.labels.nodes.items ++ f ∷ []
+  pub due : new.due.items ≡ old.due.items
+  pub agenda : new.agenda ≡ old.agenda
+  pub slot : new.slot ≡ old.slot
+
+-- the stock without the slot
+abbrev pub before : List (Option Assumption) → ℕ → Stock ℕ
+before slots slot k = cond (k == slot) None (stock slots k)
+
+-- without the slot all is settled, and nothing is under way
+pub record IsExactBefore (slots : List (Option Assumption)) (w : Work) : Type 0 where
+  pub settled : IsSettled (before slots w.slot) (λ f. KeptIn w.labels (Some f)) (KeptIn w.labels None)
+  pub are : AreRecorded (before slots w.slot) (IsIn (facts_of w.labels.nodes.items)) (RecordedIn w.recorded.items)
+  pub lives : (f : Fact) (E : Set ℕ) → KeptIn w.labels (Some f) E → IsIn (facts_of w.labels.nodes.items) f
+  pub none_due : w.due.items ≡ []
+  pub nothing_waits : w.agenda ≡ []
+
+-- all is as it was
+pub record IsTakenBack (slots : List (Option Assumption)) (old new : Work) : Type 0 where
+  pub exact : IsExactBefore slots new
+  pub same : (t : Target) (E : Set ℕ) → KeptIn old.labels t E ↔ KeptIn new.labels t E
+  pub same_slot : new.slot ≡ old.slot

@@ -75,9 +75,7 @@ impl Labels {
     pub fn is_alive(&self, fact: &Fact) -> bool
         ensures { result ≡ list_any (λ n. is_same n.fact fact.now) self.now.nodes.items }
     {
-        self.nodes
-            .iter()
-            .any(|node| is_same_fact(&node.fact, fact))
+        self.nodes.iter().any(|node| is_same_fact(&node.fact, fact))
     }
 
     /// Whether an environment of the fact's label is a subset.

@@ -1,4 +1,4 @@
-use Rattle.std.proofs.Common.{IsTrue, refl, arith}
+use Rattle.std.proofs.Common.{refl, arith}
 use Rattle.environment_sets.specs.Sets.{◌⊆◌}
 use Rattle.environment_sets.specs.Members.{members}
 use Rattle.label_engine.proofs.Nodes.{one_dropped}

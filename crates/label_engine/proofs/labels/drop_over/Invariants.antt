@@ -1,4 +1,3 @@
-use Rattle.std.proofs.Common.{◌≡◌, length}
 use Rattle.environment_sets.specs.Sets.{◌⊆◌}
 use Rattle.environment_sets.specs.Members.{members}
 use Rattle.label_engine.specs.Labels.{AreDropped}

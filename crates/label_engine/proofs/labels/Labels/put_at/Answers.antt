@@ -1,6 +1,5 @@
-use Rattle.std.proofs.Common.{◌≡◌, ℕ, position, Option, Some, refl, sym, ap, inl, ◌∙◌}
+use Rattle.std.proofs.Common.{◌≡◌, position, Some, refl, sym, ap, inl, ◌∙◌}
 use Rattle.std.proofs.Math.Seq.{map-set_same}
-use Rattle.circuit_model.specs.declared.model.Fact.{Fact}
 use Rattle.environment_sets.specs.Members.{members}
 use Rattle.std.specs.Vec.{with_item}
 use Rattle.label_engine.specs.declared.labels.Node.{Node}

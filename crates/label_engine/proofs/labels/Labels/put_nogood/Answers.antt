@@ -1,4 +1,4 @@
-use Rattle.std.proofs.Common.{◌≡◌, inl, length, List, subst, ◌∙◌}
+use Rattle.std.proofs.Common.{◌≡◌, inl, ◌∙◌}
 use Rattle.std.specs.Vec.{with_items}
 use Rattle.std.proofs.lemmas.List.{with_items_is}
 use Rattle.environment_sets.specs.Sets.{◌⊆◌}
