@@ -7,3 +7,4 @@ pub mod Holding
 pub mod Walked
 pub mod Pieces
 pub mod Assuming
+pub mod Opened

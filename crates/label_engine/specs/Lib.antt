@@ -1,3 +1,4 @@
 pub mod Labels
 pub mod Work
 pub mod EverySlot
+pub mod Engine
