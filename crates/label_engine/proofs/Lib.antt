@@ -1,0 +1,10 @@
+pub mod Nodes
+pub mod Puts
+pub mod Changed
+pub mod Families
+pub mod Picks
+pub mod Holding
+pub mod Walked
+pub mod Pieces
+pub mod Assuming
+pub mod Opened

@@ -1,0 +1,60 @@
+-- With nothing remembered, nothing kept is exact.
+use Rattle.std.proofs.Common.{◌≡◌, ℕ, zero, suc, sym, subst, ◌∙◌, List, [], ◌∷◌, ◌++◌, Option, Some, None}
+use Rattle.circuit_model.specs.declared.model.Assumption.{Assumption}
+use Rattle.circuit_model.specs.declared.model.Fact.{Fact}
+use Rattle.environment_sets.specs.declared.environment.Env.{Env}
+use Rattle.environment_sets.specs.Sets.{Set}
+use Rattle.environment_sets.specs.Members.{HasMember}
+use Rattle.environment_sets.specs.Lists.{IsIn}
+use Rattle.propagation.specs.Propagating.{Target, Inference}
+use Rattle.label_engine.specs.declared.labels.Node.{Node}
+use Rattle.label_engine.specs.declared.labels.Labels.{Labels}
+use Rattle.label_engine.specs.declared.work.Inferred.{Inferred}
+use Rattle.label_engine.specs.Engine.{IsRemembering}
+use Rattle.label_engine.specs.Labels.{facts_of, label_of, KeptIn}
+use Rattle.label_engine.specs.Work.{stock, RecordedIn}
+
+pub one_more_free : (xs : List (Option Assumption)) → ((k : ℕ) → stock xs k ≡ None) → (k : ℕ) → stock (xs ++ None ∷ []) k ≡ None
+one_more_free [] free zero = free zero
+one_more_free [] free (suc k) = free zero
+one_more_free (x ∷ xs) free zero = free zero
+one_more_free (x ∷ xs) free (suc k) = one_more_free xs (λ i. free (suc i)) k
+
+module _ (slots : List (Option Assumption)) (free : (k : ℕ) → stock slots k ≡ None) where
+  nothing : (k : ℕ) (a : Assumption) → stock slots k ≡ Some a → ⊥
+  nothing k a e = let bad : None ≡ Some a = sym (free k) ∙ e in cc
+
+  module _ (labels : Labels) (recorded : List Inferred) (nodes : labels.nodes.items ≡ []) (nogoods : labels.nogoods ≡ []) (none : recorded ≡ []) where
+    none_kept : (t : Target) (E : Set ℕ) → KeptIn labels t E → ⊥
+    none_kept None E k = let P : List Env → Type 0 = λ l. HasMember l E in subst P nogoods k
+    none_kept (Some f) E k = let P : List Node → Type 0 = λ l. HasMember (label_of l f) E in subst P nodes k
+
+    none_met : (f : Fact) → IsIn (facts_of labels.nodes.items) f → ⊥
+    none_met f h = let P : List Node → Type 0 = λ l. IsIn (facts_of l) f in subst P nodes h
+
+    none_recorded : (j : Inference) → RecordedIn recorded j → ⊥
+    none_recorded j r = let P : List Inferred → Type 0 = λ l. IsIn l r.0 in subst P none r.1
+
+    pub opened : IsRemembering slots labels recorded
+    opened = record {
+      settled = record {
+        environments = λ f E k. absurd (none_kept (Some f) E k);
+        sound = λ f E k. absurd (none_kept (Some f) E k);
+        nogood_environments = λ E k. absurd (none_kept None E k);
+        nogood_sound = λ E k. absurd (none_kept None E k);
+        antichain = λ f E F e g within. absurd (none_kept (Some f) E e);
+        nogood_antichain = λ E F e g within. absurd (none_kept None E e);
+        clean = λ f E g e n within. none_kept (Some f) E e;
+        readings = λ k f E named inside. absurd (nothing k _ named);
+        forced = λ k part instance known p v c E named inside of_part held at forces. absurd (nothing k _ named);
+        refuted = λ k part instance known E named inside of_part held refutes. absurd (nothing k _ named);
+        two_words = λ c v x E differ low high. absurd (none_kept (Some _) low.0 low.1);
+      };
+      are = record {
+        leads = λ j r. absurd (none_recorded j r);
+        forced = λ k part instance known p v c named of_part held at forces. absurd (nothing k _ named);
+        refuted = λ k part instance known named of_part held refutes. absurd (nothing k _ named);
+        two_words = λ c v x differ low high. absurd (none_met _ low);
+      };
+      lives = λ f E k. absurd (none_kept (Some f) E k);
+    }

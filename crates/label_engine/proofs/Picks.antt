@@ -1,0 +1,221 @@
+-- An item is carried out.
+use Rattle.std.proofs.Common.{◌≡◌, ℕ, ◌⊎◌, inl, inr, true, false, ◌==◌, cond, IsTrue, true≢false, refl, sym, ap, subst, ◌∙◌, List, [], ◌∷◌, ◌++◌, Option, Some, None, arith}
+use Rattle.std.proofs.lemmas.Bool.Decides.{nat_tests}
+use Rattle.circuit_model.specs.declared.model.Fact.{Fact}
+use Rattle.circuit_model.specs.declared.model.Assumption.{Assumption}
+use Rattle.circuit_model.specs.Stock.{Stock, IsEnvironment, Has}
+use Rattle.environment_sets.specs.Sets.{Set, ◌⊆◌, ◌∪◌, no_elements}
+use Rattle.environment_sets.specs.Members.{members}
+use Rattle.environment_sets.specs.Lists.{IsIn}
+use Rattle.propagation.specs.Propagating.{Target, Inference, HasAt, Leads, HasMaker, AreChosen, SomeWaits, IsDue}
+use Rattle.propagation.proofs.Unions.{leads_on, has_more, maker_some}
+use Rattle.propagation.proofs.Whole as whole
+use Rattle.label_engine.specs.declared.labels.Labels.{Labels}
+use Rattle.label_engine.specs.declared.labels.Due.{Due}
+use Rattle.label_engine.specs.declared.work.Inferred.{Inferred}
+use Rattle.label_engine.specs.declared.work.Item.{Item}
+use Rattle.label_engine.specs.Labels.{facts_of, KeptIn}
+use Rattle.label_engine.specs.Work.{stock, is_same_target, facts, inference, partner, made_by, DueIn, RecordedIn, WaitsIn, Holds, IsUnion, HasUnions}
+use Rattle.label_engine.proofs.Families.{in_front, in_back, in_either, either, either_left, either_right, same_target, target_same}
+
+maker_is : (maker : Option ℕ) (n : ℕ) → IsTrue (made_by maker n) → maker ≡ Some n
+maker_is None n h = absurd (true≢false (sym h))
+maker_is (Some k) n h = let e : k ≡ n = grind (arith, nat_tests) in ap (λ x. Some x) e
+
+is_maker_of : (maker : Option ℕ) (n : ℕ) → maker ≡ Some n → IsTrue (made_by maker n)
+is_maker_of maker n e = let P : Option ℕ → Type 0 = λ m. IsTrue (made_by m n) in subst P (sym e) (let h : IsTrue (n == n) = grind (arith, nat_tests) in h)
+
+-- the partner and the fact are all that the inference goes from
+from_at_or_partner : (a b : Option Fact) (i : Inferred) → i.first ≡ a → i.second ≡ b → (at : Fact) → IsIn (facts a b) at → (f : Fact) → IsIn (facts a b) f → (f ≡ at) ⊎ (cond (is_same_target a (Some at)) b a ≡ Some f)
+from_at_or_partner None None i ea eb at h f g = absurd h
+from_at_or_partner (Some a) None i ea eb at (inl h) f (inl g) = inl (sym g ∙ h)
+from_at_or_partner (Some a) None i ea eb at (inr h) f g = absurd h
+from_at_or_partner (Some a) None i ea eb at h f (inr g) = absurd g
+from_at_or_partner None (Some b) i ea eb at (inl h) f (inl g) = inl (sym g ∙ h)
+from_at_or_partner None (Some b) i ea eb at (inr h) f g = absurd h
+from_at_or_partner None (Some b) i ea eb at h f (inr g) = absurd g
+from_at_or_partner (Some a) (Some b) i ea eb at h f g =
+    elim (is_same_target (Some a) (Some at)) as (λ t. is_same_target (Some a) (Some at) ≡ t → (f ≡ at) ⊎ (cond t (Some b) (Some a) ≡ Some f)) [
+      | true ↦ λ same. elim g [
+        | inl ga ↦ let aat : Some a ≡ Some at = same_target (Some a) (Some at) same in inl (let e : a ≡ at = cc in sym ga ∙ e)
+        | inr gb ↦ elim gb [ inl e ↦ inr (ap (λ x. Some x) e) | inr bad ↦ absurd bad ]
+      ]
+      | false ↦ λ differ. elim g [
+        | inl ga ↦ inr (ap (λ x. Some x) ga)
+        | inr gb ↦ elim gb [
+          | inl e ↦ elim h [
+            | inl ha ↦ absurd (true≢false (sym (target_same (Some a) (Some at) (ap (λ x. Some x) ha)) ∙ differ))
+            | inr hb ↦ elim hb [ inl e2 ↦ inl (sym e ∙ e2) | inr bad ↦ absurd bad ]
+          ]
+          | inr bad ↦ absurd bad
+        ]
+      ]
+    ] refl
+
+-- what is in a union
+module _ (item : Item) (A : Set ℕ) (d : Due) (u : IsUnion item A d) where
+  joined : (n : ℕ) → members d.env n ≡ ((members item.env ∪ A) ∪ made_by item.inferred.maker) n
+  joined n = ap (λ (F : Set ℕ). F n) u.joined
+
+  of_union : (n : ℕ) → IsTrue (members d.env n) → IsTrue (members item.env n) ⊎ (IsTrue (A n) ⊎ (item.inferred.maker ≡ Some n))
+  of_union n h =
+      elim (either ((members item.env ∪ A) n) _ (sym (joined n) ∙ h)) [
+        | inl r ↦ elim (either (members item.env n) (A n) r) [ inl a ↦ inl a | inr b ↦ inr (inl b) ]
+        | inr m ↦ inr (inr (maker_is item.inferred.maker n m))
+      ]
+
+  -- a union lies in each set that has its parts
+  union_inside : (E : Set ℕ) → members item.env ⊆ E → A ⊆ E → HasMaker item.inferred.maker E → members d.env ⊆ E
+  union_inside E at inside maker n h =
+      elim (of_union n h) [
+        | inl a ↦ at n a
+        | inr r ↦ elim r [ inl b ↦ inside n b | inr m ↦ maker n m ]
+      ]
+
+  in_union_maker : HasMaker item.inferred.maker (members d.env)
+  in_union_maker n e = joined n ∙ either_right ((members item.env ∪ A) n) _ (is_maker_of item.inferred.maker n e)
+
+  in_union_at : members item.env ⊆ members d.env
+  in_union_at n h = joined n ∙ either_left ((members item.env ∪ A) n) _ (either_left _ _ h)
+
+  in_union_other : A ⊆ members d.env
+  in_union_other n h = joined n ∙ either_left ((members item.env ∪ A) n) _ (either_right (members item.env n) _ h)
+
+module _ (slots : List (Option Assumption)) (slot : ℕ) (labels : Labels) (recorded : List Inferred) (dues dues' : List Due) (agenda : List Item) (item : Item)
+    (was : Holds slots slot labels recorded dues (item ∷ agenda)) (u : HasUnions item labels dues dues') where
+  abbrev S : Stock ℕ
+  S = stock slots
+
+  abbrev It : Inference
+  It = inference item.inferred
+
+  it_waits : WaitsIn (item ∷ agenda) It item.at (members item.env)
+  it_waits = (item, inl refl, refl, refl, refl)
+
+  left_waits : (i : Inference) (g : Fact) (m : Set ℕ) → WaitsIn (item ∷ agenda) i g m → WaitsIn agenda i g m ⊎ ((i ≡ It) × (g ≡ item.at) × (m ≡ members item.env))
+  left_waits i g m (x, inl e, a, b, c) = inr (sym a ∙ sym (ap (λ (y : Item). inference y.inferred) e), sym b ∙ sym (ap (λ (y : Item). y.at) e), sym c ∙ sym (ap (λ (y : Item). members y.env) e))
+  left_waits i g m (x, inr l, a, b, c) = inl (x, l, a, b, c)
+
+  leads : Leads S It.from It.maker It.to
+  leads = was.are.leads It (was.waiting.inference It item.at (members item.env) it_waits)
+
+  at_from : IsIn It.from item.at
+  at_from = was.waiting.antecedent It item.at (members item.env) it_waits
+
+  -- a union with what has the partner is sound
+  union_environment : (A : Set ℕ) (d : Due) → IsUnion item A d → IsEnvironment S A → IsEnvironment S (members d.env)
+  union_environment A d is env n h =
+      elim (of_union item A d is n h) [
+        | inl a ↦ was.waiting.environment It item.at (members item.env) it_waits n a
+        | inr r ↦ elim r [ inl b ↦ env n b | inr m ↦ maker_some S It.from It.maker It.to leads n m ]
+      ]
+
+  union_has : (A : Set ℕ) (d : Due) → IsUnion item A d → ((f : Fact) → partner item.inferred item.at ≡ Some f → Has S f A) → HasAt S d.target (members d.env)
+  union_has A d is has =
+      let P : Target → Type 0 = λ t. HasAt S t (members d.env) in
+      subst P (sym is.target) (leads_on S (members d.env) It.from It.maker It.to leads (in_union_maker item A d is) (λ f i. elim (from_at_or_partner item.inferred.first item.inferred.second item.inferred refl refl item.at at_from f i) [
+        | inl e ↦ let Q : Fact → Type 0 = λ g. Has S g (members d.env) in subst Q (sym e) (has_more S (members d.env) (Some item.at) (members item.env) (in_union_at item A d is) (was.waiting.sound It item.at (members item.env) it_waits))
+        | inr e ↦ has_more S (members d.env) (Some f) A (in_union_other item A d is) (has f e)
+      ]))
+
+  due_environments : (t : Target) (E : Set ℕ) → DueIn dues' t E → IsEnvironment S E
+  due_environments t E (d, i, same, is) =
+      subst (IsEnvironment S) is (elim (u.only d i) [
+        | inl o ↦ was.due.environments d.target (members d.env) (d, o, refl, refl)
+        | inr n ↦ elim n [
+          | inl alone ↦ union_environment no_elements d alone.1 (λ n h. absurd (true≢false (sym h)))
+          | inr two ↦ union_environment two.1 d two.4 (was.sound.environments (Some two.0) two.1 two.3)
+        ]
+      ])
+
+  due_has : (t : Target) (E : Set ℕ) → DueIn dues' t E → HasAt S t E
+  due_has t E (d, i, same, is) =
+      let P : Set ℕ → Type 0 = λ F. HasAt S t F in
+      let Q : Target → Type 0 = λ s. HasAt S s (members d.env) in
+      subst P is (subst Q same (elim (u.only d i) [
+        | inl o ↦ was.due.sound d.target (members d.env) (d, o, refl, refl)
+        | inr n ↦ elim n [
+          | inl alone ↦ union_has no_elements d alone.1 (λ f e. absurd (let bad : None ≡ Some f = sym alone.0 ∙ e in cc))
+          | inr two ↦ union_has two.1 d two.4 (λ f e. let same : Some two.0 ≡ Some f = sym two.2 ∙ e in let gf : two.0 ≡ f = cc in let R : Fact → Type 0 = λ g. Has S g two.1 in subst R gf (was.sound.sound (Some two.0) two.1 two.3))
+        ]
+      ]))
+
+  abbrev IsDueNow : Set ℕ → Type 0
+  IsDueNow E = IsDue (KeptIn labels) (DueIn dues') item.inferred.to E
+
+  due_of : (A E : Set ℕ) (d : Due) → IsIn dues' d → IsUnion item A d → members item.env ⊆ E → A ⊆ E → HasMaker item.inferred.maker E → IsDueNow E
+  due_of A E d i is at inside maker = inr (members d.env, (d, i, is.target, refl), union_inside item A d is E at inside maker)
+
+  with_partner : (g : Fact) (m E : Set ℕ) → partner item.inferred item.at ≡ Some g → KeptIn labels (Some g) m → m ⊆ E → members item.env ⊆ E → HasMaker item.inferred.maker E → IsDueNow E
+  with_partner g m E e kept inside at maker = let d : (d : Due) × IsIn dues' d × IsUnion item m d = u.each g m e kept in due_of m E d.0 d.1 d.2 at inside maker
+
+  same_at : (m E : Set ℕ) → m ≡ members item.env → m ⊆ E → members item.env ⊆ E
+  same_at m E e inside = let P : Set ℕ → Type 0 = λ F. F ⊆ E in subst P e inside
+
+  abbrev Now : Fact → Set ℕ → Type 0
+  Now g m = (g ≡ item.at) × (m ≡ members item.env)
+
+  unions : (a b : Option Fact) → item.inferred.first ≡ a → item.inferred.second ≡ b → (ms : List (Set ℕ)) (E : Set ℕ) → AreChosen (KeptIn labels) E (facts a b) ms → HasMaker item.inferred.maker E → SomeWaits Now (facts a b) ms → IsDueNow E
+  unions None None ea eb [] E c maker w = absurd w
+  unions None None ea eb (m ∷ ms) E c maker w = absurd w
+  unions (Some a) None ea eb [] E c maker w = absurd w
+  unions (Some a) None ea eb (m ∷ ms) E c maker (inr w) = absurd (elim ms as (λ (l : List (Set ℕ)). SomeWaits Now [] l → ⊥) [ [] ↦ λ h. h | x ∷ xs ↦ λ h. h ] w)
+  unions (Some a) None ea eb (m ∷ ms) E c maker (inl w) =
+      let k : (k : Due) × IsIn dues' k × IsUnion item no_elements k = u.alone (alone_first w.0) in
+      due_of no_elements E k.0 k.1 k.2 (same_at m E w.1 c.1) (λ n h. absurd (true≢false (sym h))) maker
+    where
+      alone_first : a ≡ item.at → partner item.inferred item.at ≡ None
+      alone_first e = let same : IsTrue (is_same_target item.inferred.first (Some item.at)) = target_same item.inferred.first (Some item.at) (ea ∙ ap (λ x. Some x) e) in rw same eb
+  unions None (Some b) ea eb [] E c maker w = absurd w
+  unions None (Some b) ea eb (m ∷ ms) E c maker (inr w) = absurd (elim ms as (λ (l : List (Set ℕ)). SomeWaits Now [] l → ⊥) [ [] ↦ λ h. h | x ∷ xs ↦ λ h. h ] w)
+  unions None (Some b) ea eb (m ∷ ms) E c maker (inl w) =
+      let k : (k : Due) × IsIn dues' k × IsUnion item no_elements k = u.alone (rw ea refl) in
+      due_of no_elements E k.0 k.1 k.2 (same_at m E w.1 c.1) (λ n h. absurd (true≢false (sym h))) maker
+  unions (Some a) (Some b) ea eb [] E c maker w = absurd w
+  unions (Some a) (Some b) ea eb (m ∷ []) E c maker w = absurd c.2
+  unions (Some a) (Some b) ea eb (m ∷ n ∷ ms) E c maker w =
+      elim (is_same_target item.inferred.first (Some item.at)) as (λ t. is_same_target item.inferred.first (Some item.at) ≡ t → IsDueNow E) [
+        | true ↦ λ same.
+            let p : partner item.inferred item.at ≡ Some b = rw same eb in
+            elim w [
+              | inl here ↦ with_partner b n E p c.2.0 c.2.1 (same_at m E here.1 c.1) maker
+              | inr later ↦ elim later [
+                | inl there ↦
+                    let a_at : Some a ≡ Some item.at = sym ea ∙ same_target item.inferred.first (Some item.at) same in
+                    let ab : a ≡ b = (let x : a ≡ item.at = cc in x ∙ sym there.0) in
+                    let P : Fact → Type 0 = λ g. KeptIn labels (Some g) m in
+                    with_partner b m E p (subst P ab c.0) c.1 (same_at n E there.1 c.2.1) maker
+                | inr bad ↦ absurd (elim ms as (λ (l : List (Set ℕ)). SomeWaits Now [] l → ⊥) [ [] ↦ λ h. h | x ∷ xs ↦ λ h. h ] bad)
+              ]
+            ]
+        | false ↦ λ differ.
+            let p : partner item.inferred item.at ≡ Some a = rw differ ea in
+            elim w [
+              | inl here ↦ absurd (true≢false (sym (target_same item.inferred.first (Some item.at) (ea ∙ ap (λ x. Some x) here.0)) ∙ differ))
+              | inr later ↦ elim later [
+                | inl there ↦ with_partner a m E p c.0 c.1 (same_at n E there.1 c.2.1) maker
+                | inr bad ↦ absurd (elim ms as (λ (l : List (Set ℕ)). SomeWaits Now [] l → ⊥) [ [] ↦ λ h. h | x ∷ xs ↦ λ h. h ] bad)
+              ]
+            ]
+      ] refl
+
+  pub holds_picked : Holds slots slot labels recorded dues' agenda
+  holds_picked =
+      whole.picked S slot (IsIn (facts_of labels.nodes.items)) (KeptIn labels) (RecordedIn recorded) (DueIn dues) (WaitsIn (item ∷ agenda)) was (DueIn dues') (WaitsIn agenda) It item.at (members item.env)
+      left_waits (λ i g m w. (w.0, inr w.1, w.2, w.3, w.4)) (λ t E k. (k.0, u.stays k.0 k.1, k.2, k.3)) (record { environments = due_environments; sound = due_has })
+      (unions item.inferred.first item.inferred.second refl refl)
+
+-- the item's only fact is the one at which it waits
+pub alone : (item : Item) (labels : Labels) (old : List Due) (d : Due) → partner item.inferred item.at ≡ None → IsUnion item no_elements d → HasUnions item labels old (old ++ d ∷ [])
+alone item labels old d p is = record {
+  stays = λ x i. in_front old (d ∷ []) x i;
+  alone = λ _. (d, in_back old (d ∷ []) d (inl refl), is);
+  each = λ g E e k. absurd (let bad : None ≡ Some g = sym p ∙ e in cc);
+  only = λ x i. elim (in_either old (d ∷ []) x i) [
+    | inl o ↦ inl o
+    | inr l ↦ elim l [
+      | inl e ↦ inr (inl (p, (let P : Due → Type 0 = λ y. IsUnion item no_elements y in subst P e is)))
+      | inr bad ↦ absurd bad
+    ]
+  ];
+}

@@ -1,0 +1,233 @@
+-- The steps of the program, joined.
+use Rattle.std.proofs.Common.{◌≡◌, ℕ, Bool, ◌^◌, ◌<◌, inl, inr, refl, sym, ap, subst, ◌∙◌, ◌↔◌, List, [], ◌∷◌, ◌++◌, length, Option, Some, None, Result, Ok, Err, IfOk, take, drop, get_or, suc, drop-cons, append_assoc, append-nil, OnOk, OnErr, arith}
+use Rattle.std.specs.List.{slice_get, remove}
+use Rattle.std.proofs.lemmas.List.{take-append-drop, map-append}
+use Rattle.std.proofs.lemmas.Option.{slice_get_within, get_or_from_slice_get}
+use Rattle.circuit_model.specs.declared.model.Fact.{Fact}
+use Rattle.circuit_model.specs.declared.model.Assumption.{Assumption}
+use Rattle.circuit_model.specs.Settled.{IsSettled}
+use Rattle.environment_sets.specs.Sets.{Set}
+use Rattle.environment_sets.specs.Members.{members}
+use Rattle.environment_sets.specs.Lists.{IsIn}
+use Rattle.propagation.specs.Propagating.{Target, Family, Inference, IsReached, AgreeWithout, IsPropagating}
+use Rattle.propagation.proofs.Whole as whole
+use Rattle.propagation.specs.Uncovered.{uncovered, TargetFits}
+use Rattle.label_engine.specs.declared.labels.Node.{Node}
+use Rattle.label_engine.specs.declared.labels.Labels.{Labels}
+use Rattle.label_engine.specs.declared.labels.Due.{Due}
+use Rattle.label_engine.specs.declared.work.Inferred.{Inferred}
+use Rattle.label_engine.specs.declared.work.Item.{Item}
+use Rattle.label_engine.specs.declared.work.Work.{Work}
+use Rattle.label_engine.specs.Labels.{facts_of, label_of, KeptIn, reaches}
+use Rattle.label_engine.specs.Work.{AllLead, Survives, stock, partner, DueIn, RecordedIn, WaitsIn, Propagates, Holds, DueAlso, HasUnions, HasUnionsWith, IsEnlivened, KeptInSame, IsPutThere, IsReady, IsDone, CarriesOn, AgreesWith}
+use Rattle.label_engine.proofs.Families.{in_back, in_front, in_either, same_family, same_test, label_of-met}
+use Rattle.label_engine.proofs.Holding.{holds_reached, holds_alive, holds_put, agrees_put, fewer_uncovered, load_falls}
+
+pub IfOk-map : {A E : Type 0} {P Q : A → Type 0} → (r : Result A E) → ((x : A) → P x → Q x) → IfOk r P → IfOk r Q
+IfOk-map (Ok x) f h = f x h
+IfOk-map (Err e) f h = h
+
+-- the unions with the partner's label are all unions
+pub unions_with_partner : (item : Item) (labels : Labels) (g : Fact) (old new : List Due) → partner item.inferred item.at ≡ Some g → HasUnionsWith item (label_of labels.nodes.items g) old new → HasUnions item labels old new
+unions_with_partner item labels g old new p u = record {
+  stays = u.stays;
+  alone = λ e. absurd (let bad : Some g ≡ None = sym p ∙ e in cc);
+  each = λ h E e k. let both : Some h ≡ Some g = sym e ∙ p in let same : h ≡ g = cc in let P : Fact → Type 0 = λ x. KeptIn labels (Some x) E in u.each E (subst P same k);
+  only = λ d i. elim (u.only d i) [
+    | inl o ↦ inl o
+    | inr r ↦ inr (inr (g, r.0, p, r.1, r.2))
+  ];
+}
+
+-- a fact is met, or memory ran out
+module _ {A E : Type 0} (r : Result A E) (old new : Labels) (f : Fact) (ok : OnOk r (new.nodes.items ≡ old.nodes.items ++ record { fact = f; label = [] } ∷ [])) (err : OnErr r (new.nodes.items ≡ old.nodes.items)) where
+  pub labels_met : (g : Fact) → label_of new.nodes.items g ≡ label_of old.nodes.items g
+  labels_met g =
+      elim r as (λ (x : Result A E). OnOk x (new.nodes.items ≡ old.nodes.items ++ record { fact = f; label = [] } ∷ []) → OnErr x (new.nodes.items ≡ old.nodes.items) → label_of new.nodes.items g ≡ label_of old.nodes.items g) [
+        | Ok x ↦ λ o _. ap (λ l. label_of l g) o ∙ label_of-met old.nodes.items f g
+        | Err e ↦ λ _ o. ap (λ l. label_of l g) o
+      ] ok err
+
+  pub facts_met : (born : List Fact) × (facts_of new.nodes.items ≡ facts_of old.nodes.items ++ born)
+  facts_met =
+      elim r as (λ (x : Result A E). OnOk x (new.nodes.items ≡ old.nodes.items ++ record { fact = f; label = [] } ∷ []) → OnErr x (new.nodes.items ≡ old.nodes.items) → (born : List Fact) × (facts_of new.nodes.items ≡ facts_of old.nodes.items ++ born)) [
+        | Ok x ↦ λ o _. (f ∷ [], ap facts_of o ∙ map-append (λ (n : Node). n.fact) old.nodes.items (record { fact = f; label = [] } ∷ []))
+        | Err e ↦ λ _ o. ([], ap facts_of o ∙ sym (append-nil (facts_of old.nodes.items)))
+      ] ok err
+
+pub agrees_same : (old new : Work) → KeptInSame old new → AgreesWith old new
+agrees_same old new s t E _ = let P : Family → Type 0 = λ K. K t E ↔ KeptIn new.labels t E in subst P (same_family old.labels new.labels s.labels s.nogoods) ((λ (k : KeptIn new.labels t E). k), (λ (k : KeptIn new.labels t E). k))
+
+module _ (slots : List (Option Assumption)) where
+  pub lead_both : (xs ys : List Inferred) → AllLead slots xs → AllLead slots ys → AllLead slots (xs ++ ys)
+  lead_both xs ys a b i h = elim (in_either xs ys i h) [ inl x ↦ a i x | inr y ↦ b i y ]
+
+  pub lead_take : (k : ℕ) (xs : List Inferred) → AllLead slots xs → AllLead slots (take k xs)
+  lead_take k xs all i h = all i (let P : List Inferred → Type 0 = λ l. IsIn l i in subst P (take-append-drop k xs) (in_front (take k xs) (drop k xs) i h))
+
+  pub survives_same : (w : Work) → Survives slots w w
+  survives_same w = record {
+    agrees = λ t E _. ((λ (k : KeptIn w.labels t E). k), (λ (k : KeptIn w.labels t E). k));
+    same_slot = refl;
+    added = [];
+    lead = λ i h. absurd h;
+    recorded = sym (append-nil w.recorded.items);
+    born = [];
+    alive = sym (append-nil (facts_of w.labels.nodes.items));
+  }
+
+  -- one step after another
+  agree_trans : (slot : ℕ) (a b c : Family) → AgreeWithout slot a b → AgreeWithout slot b c → AgreeWithout slot a c
+  agree_trans slot a b c x y t E out = ((λ (k : a t E). (y t E out).0 ((x t E out).0 k)), (λ (k : c t E). (x t E out).1 ((y t E out).1 k)))
+
+  pub agrees_on : (a b c : Work) → AgreesWith a b → b.slot ≡ a.slot → AgreesWith b c → AgreesWith a c
+  agrees_on a b c first same then = agree_trans a.slot (KeptIn a.labels) (KeptIn b.labels) (KeptIn c.labels) first (let P : ℕ → Type 0 = λ s. AgreeWithout s (KeptIn b.labels) (KeptIn c.labels) in subst P same then)
+
+  pub survives_on :
+      (a b c : Work) → Survives slots a b → AgreesWith b c → c.slot ≡ b.slot → (added : List Inferred) → AllLead slots added → c.recorded.items ≡ b.recorded.items ++ added
+      → (born : List Fact) → facts_of c.labels.nodes.items ≡ facts_of b.labels.nodes.items ++ born → Survives slots a c
+  survives_on a b c first agrees slot added lead recorded born alive = record {
+    agrees = agrees_on a b c first.agrees first.same_slot agrees;
+    same_slot = slot ∙ first.same_slot;
+    added = first.added ++ added;
+    lead = lead_both first.added added first.lead lead;
+    recorded = recorded ∙ (ap (λ l. l ++ added) first.recorded ∙ append_assoc a.recorded.items first.added added);
+    born = first.born ++ born;
+    alive = alive ∙ (ap (λ l. l ++ born) first.alive ∙ append_assoc (facts_of a.labels.nodes.items) first.born born);
+  }
+
+  -- a change of labels alone
+  pub survives_then : (a b c : Work) → Survives slots a b → AgreesWith b c → c.slot ≡ b.slot → c.recorded.items ≡ b.recorded.items → facts_of c.labels.nodes.items ≡ facts_of b.labels.nodes.items → Survives slots a c
+  survives_then a b c first agrees slot recorded alive = record {
+    agrees = agrees_on a b c first.agrees first.same_slot agrees;
+    same_slot = slot ∙ first.same_slot;
+    added = first.added;
+    lead = first.lead;
+    recorded = recorded ∙ first.recorded;
+    born = first.born;
+    alive = alive ∙ first.alive;
+  }
+
+  pub carries_same : (w : Work) → Propagates slots w → CarriesOn slots w w
+  carries_same w was = record {
+    propagates = was;
+    agrees = λ t E _. ((λ (k : KeptIn w.labels t E). k), (λ (k : KeptIn w.labels t E). k));
+    same_slot = refl;
+    no_more = omega arith;
+  }
+
+  pub carries_on : (a b c : Work) → CarriesOn slots a b → CarriesOn slots b c → CarriesOn slots a c
+  carries_on a b c first then = record {
+    propagates = then.propagates;
+    agrees = agrees_on a b c first.agrees first.same_slot then.agrees;
+    same_slot = then.same_slot ∙ first.same_slot;
+    no_more = omega (arith, then.no_more, first.no_more);
+  }
+
+  module _ (due : Due) where
+    pub ready_enlivened : (f : Fact) (old new : Work) → DueAlso slots due old → due.target ≡ Some f → (IsIn (facts_of old.labels.nodes.items) f → ⊥) → KeptInSame old new → IsEnlivened slots f old new → IsReady slots due old new
+    ready_enlivened f old new was at dead same e = record {
+      due_also =
+          let P : Family → Type 0 = λ K. IsPropagating (stock slots) new.slot (IsIn (facts_of new.labels.nodes.items)) K (RecordedIn new.recorded.items) (DueIn (due ∷ new.due.items)) (WaitsIn new.agenda) in
+          subst P (sym (same_family old.labels new.labels same.labels same.nogoods)) (rw (e.slot, e.alive, e.recorded, e.due, e.agenda) (holds_alive slots old.slot old.labels old.recorded.items due old.due.items old.agenda was f dead e.found e.are_found));
+      lives = λ g same_target. rw e.alive (let both : Some f ≡ Some g = sym at ∙ same_target in let gf : f ≡ g = cc in subst (IsIn (facts_of old.labels.nodes.items ++ f ∷ [])) gf (in_back (facts_of old.labels.nodes.items) (f ∷ []) f (inl refl)));
+      labels_same = same.labels;
+      nogoods_same = same.nogoods;
+      due_same = e.due;
+      agenda_same = e.agenda;
+      same_slot = e.slot;
+    }
+
+    pub ready_alive : (old : Work) → DueAlso slots due old → ((f : Fact) → due.target ≡ Some f → IsIn (facts_of old.labels.nodes.items) f) → IsReady slots due old old
+    ready_alive old was lives = record {
+      due_also = was;
+      lives = lives;
+      labels_same = λ f. refl;
+      nogoods_same = refl;
+      due_same = refl;
+      agenda_same = refl;
+      same_slot = refl;
+    }
+
+    pub carries_reached : (old : Work) → DueAlso slots due old → IsReached (KeptIn old.labels) due.target (members due.env) → CarriesOn slots old old
+    carries_reached old was r = carries_same old (holds_reached slots old.slot old.labels old.recorded.items due old.due.items old.agenda was r)
+
+    module _ (old mid new : Work) (ready : IsReady slots due old mid) (out : IsReached (KeptIn old.labels) due.target (members due.env) → ⊥) where
+      pub out_mid : IsReached (KeptIn mid.labels) due.target (members due.env) → ⊥
+      out_mid = let P : Family → Type 0 = λ K. IsReached K due.target (members due.env) → ⊥ in subst P (sym (same_family old.labels mid.labels ready.labels_same ready.nogoods_same)) out
+
+      module _ (put : IsPutThere due mid new) where
+        pub agrees_put_there : AgreesWith mid new
+        agrees_put_there = agrees_put slots mid.slot mid.labels mid.recorded.items due mid.due.items mid.agenda ready.due_also out_mid ready.lives new.labels put.put
+
+        pub carries_put : TargetFits due.target → length new.agenda < 2 ^ 64 → CarriesOn slots old new
+        carries_put fits few = record {
+          propagates = rw (put.slot, put.alive, put.recorded, put.due_same, put.agenda) (holds_put slots mid.slot mid.labels mid.recorded.items due mid.due.items mid.agenda ready.due_also out_mid ready.lives new.labels put.put);
+          agrees = agrees_on old mid new (agrees_same old mid (record { labels = ready.labels_same; nogoods = ready.nogoods_same })) ready.same_slot agrees_put_there;
+          same_slot = put.slot ∙ ready.same_slot;
+          no_more =
+              let less : uncovered (reaches new.labels) < uncovered (reaches mid.labels) = fewer_uncovered slots mid.slot mid.labels mid.recorded.items due mid.due.items mid.agenda ready.due_also out_mid ready.lives new.labels put.put fits in
+              let less_old : uncovered (reaches new.labels) < uncovered (reaches old.labels) = (let P : (Target → Set ℕ → Bool) → Type 0 = λ r. uncovered (reaches new.labels) < uncovered r in subst P (same_test old.labels mid.labels ready.labels_same ready.nogoods_same) less) in
+              omega (arith, load_falls (uncovered (reaches new.labels)) (uncovered (reaches old.labels)) (length new.agenda) (length old.agenda) less_old few);
+        }
+
+  module _ (slot : ℕ) (labels : Labels) (recorded : List Inferred) where
+    same_dues : (xs ys : List Due) → ((d : Due) → IsIn xs d ↔ IsIn ys d) → (t : Target) (E : Set ℕ) → DueIn xs t E ↔ DueIn ys t E
+    same_dues xs ys same t E = ((λ (d : DueIn xs t E). (d.0, (same d.0).0 d.1, d.2, d.3)), (λ (d : DueIn ys t E). (d.0, (same d.0).1 d.1, d.2, d.3)))
+
+    same_items : (xs ys : List Item) → ((i : Item) → IsIn xs i ↔ IsIn ys i) → (j : Inference) (f : Fact) (m : Set ℕ) → WaitsIn xs j f m ↔ WaitsIn ys j f m
+    same_items xs ys same j f m = ((λ (w : WaitsIn xs j f m). (w.0, (same w.0).0 w.1, w.2, w.3, w.4)), (λ (w : WaitsIn ys j f m). (w.0, (same w.0).1 w.1, w.2, w.3, w.4)))
+
+    same : {X : Type 0} (xs : List X) (x : X) → IsIn xs x ↔ IsIn xs x
+    same xs x = ((λ (i : IsIn xs x). i), (λ (i : IsIn xs x). i))
+
+    -- the last that is due is taken
+    pub holds_popped : (old dues : List Due) (due : Due) (agenda : List Item) → old ≡ dues ++ due ∷ [] → Holds slots slot labels recorded old agenda → Holds slots slot labels recorded (due ∷ dues) agenda
+    holds_popped old dues due agenda e was =
+        whole.reordered (stock slots) slot (IsIn (facts_of labels.nodes.items)) (KeptIn labels) (RecordedIn recorded) (DueIn old) (WaitsIn agenda) was (DueIn (due ∷ dues)) (WaitsIn agenda)
+        (same_dues old (due ∷ dues) moved) (same_items agenda agenda (same agenda))
+      where
+        moved : (k : Due) → IsIn old k ↔ IsIn (due ∷ dues) k
+        moved k = (
+          (λ (i : IsIn old k). elim (in_either dues (due ∷ []) k (let P : List Due → Type 0 = λ l. IsIn l k in subst P e i)) [ inl a ↦ inr a | inr b ↦ elim b [ inl x ↦ inl x | inr bad ↦ absurd bad ] ]),
+          (λ (i : IsIn (due ∷ dues) k). let P : List Due → Type 0 = λ l. IsIn l k in subst P (sym e) (elim i [ inl x ↦ in_back dues (due ∷ []) k (inl x) | inr a ↦ in_front dues (due ∷ []) k a ])),
+        )
+
+    -- any item is taken
+    pub holds_taken : (dues : List Due) (old rest : List Item) (item : Item) → ((k : Item) → IsIn old k ↔ IsIn (item ∷ rest) k) → Holds slots slot labels recorded dues old → Holds slots slot labels recorded dues (item ∷ rest)
+    holds_taken dues old rest item moved was =
+        whole.reordered (stock slots) slot (IsIn (facts_of labels.nodes.items)) (KeptIn labels) (RecordedIn recorded) (DueIn dues) (WaitsIn old) was (DueIn dues) (WaitsIn (item ∷ rest))
+        (same_dues dues dues (same dues)) (same_items old (item ∷ rest) moved)
+
+    -- nothing is due and nothing waits
+    pub holds_ended : Holds slots slot labels recorded [] [] → IsSettled (stock slots) (λ f. KeptIn labels (Some f)) (KeptIn labels None)
+    holds_ended was = whole.ended (stock slots) slot (IsIn (facts_of labels.nodes.items)) (KeptIn labels) (RecordedIn recorded) (DueIn []) (WaitsIn []) was (λ t E k. k.1) (λ i g m w. w.1)
+
+pub taken_item : (xs : List Item) (i : ℕ) (x : Item) → slice_get xs i ≡ Some x → (k : Item) → IsIn xs k ↔ IsIn (x ∷ remove xs i) k
+taken_item xs i x at k = (to, from)
+  where
+    parts : xs ≡ take i xs ++ (x ∷ drop (suc i) xs)
+    parts =
+        let low : i < length xs = slice_get_within xs i x at in
+        let is : get_or xs i x ≡ x = get_or_from_slice_get xs i x x at in
+        sym (take-append-drop i xs) ∙ ap (λ l. take i xs ++ l) (drop-cons xs i x low ∙ ap (λ y. y ∷ drop (suc i) xs) is)
+
+    to : IsIn xs k → IsIn (x ∷ remove xs i) k
+    to h = elim (in_either (take i xs) (x ∷ drop (suc i) xs) k (let P : List Item → Type 0 = λ l. IsIn l k in subst P parts h)) [
+      | inl a ↦ inr (in_front (take i xs) (drop (suc i) xs) k a)
+      | inr b ↦ elim b [ inl e ↦ inl e | inr r ↦ inr (in_back (take i xs) (drop (suc i) xs) k r) ]
+    ]
+
+    from : IsIn (x ∷ remove xs i) k → IsIn xs k
+    from h = let P : List Item → Type 0 = λ l. IsIn l k in subst P (sym parts) (elim h [
+      | inl e ↦ in_back (take i xs) (x ∷ drop (suc i) xs) k (inl e)
+      | inr r ↦ elim (in_either (take i xs) (drop (suc i) xs) k r) [ inl a ↦ in_front (take i xs) (x ∷ drop (suc i) xs) k a | inr b ↦ in_back (take i xs) (x ∷ drop (suc i) xs) k (inr b) ]
+    ])
+
+pub done : (slots : List (Option Assumption)) (entry w : Work) → Propagates slots w → w.due.items ≡ [] → w.agenda ≡ [] → AgreesWith entry w → IsDone slots entry w
+done slots entry w was none_due nothing_waits agrees = record {
+  settled = holds_ended slots w.slot w.labels w.recorded.items (rw (← none_due, ← nothing_waits) was);
+  recorded = was.are;
+  lives = was.lives;
+  agrees = agrees;
+}

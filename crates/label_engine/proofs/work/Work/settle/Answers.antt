@@ -1,0 +1,24 @@
+use Rattle.label_engine.proofs.Pieces.{holds_taken, taken_item, done, survives_on}
+use Rattle.label_engine.proofs.work.Work.settle.Goals as goal
+
+pub carry_out-requires : goal.carry_out-requires
+carry_out-requires g c =
+    rw c.take_at-item.ensures.others (holds_taken c.args.slots.now c.picks.self.slot c.picks.self.labels c.picks.self.recorded.items c.picks.self.due.items c.picks.self.agenda _ c.take_at-item.result (taken_item c.picks.self.agenda c.pick-place.result c.take_at-item.result c.take_at-item.ensures.item) c.picks.invariant.propagates)
+
+pub picks-preserved : goal.picks-preserved
+picks-preserved g c =
+    let on = c.in_ok-carry_out.ensures.ok in
+    let s = c.carry_out.ensures.survives in
+    record {
+      propagates = on.propagates;
+      none_due = c.in_ok-carry_out.ensures.none_due;
+      survives = survives_on c.args.slots.now c.args.self.now c.picks.self c.carry_out.new.self c.picks.invariant.survives s.agrees s.same_slot s.added s.lead s.recorded s.born s.alive;
+    }
+
+pub returns-in_err-carry_out-clause-survives : goal.returns-in_err-carry_out-clause-survives
+returns-in_err-carry_out-clause-survives g c =
+    let s = c.carry_out.ensures.survives in
+    survives_on c.args.slots.now c.args.self.now c.picks.self c.carry_out.new.self c.picks.invariant.survives s.agrees s.same_slot s.added s.lead s.recorded s.born s.alive
+
+pub returns-clause-ok : goal.returns-clause-ok
+returns-clause-ok g c = done c.args.slots.now c.args.self.now c.picks.self c.picks.invariant.propagates c.picks.invariant.none_due (c.is_empty.ensures.0 c.picks-test.false) c.picks.invariant.survives.agrees

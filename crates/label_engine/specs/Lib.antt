@@ -1,0 +1,4 @@
+pub mod Labels
+pub mod Work
+pub mod EverySlot
+pub mod Engine

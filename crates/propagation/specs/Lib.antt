@@ -1,0 +1,3 @@
+pub mod Propagating
+pub mod Uncovered
+pub mod Laws
