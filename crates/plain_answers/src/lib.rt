@@ -1,0 +1,9 @@
+// Labels, nogoods, conflicts and diagnoses of small presents by trying all environments, as the definitions say them.
+#![tactic(auto)]
+
+mod answers;
+mod keeping;
+mod subsets;
+
+pub use answers::{label, nogoods};
+pub use subsets::environments;
