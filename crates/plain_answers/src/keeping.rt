@@ -1,12 +1,14 @@
 // Environments that pass a test, and the least ones.
 
-ghost use Rattle.std.specs.Prelude.{◌≡◌, ◌↔◌, IsTrue, IfOk, MatchBool, Some};
+ghost use Rattle.std.specs.Prelude.{length, ◌≡◌, ◌↔◌, IsTrue, IfOk, MatchBool, Some};
 ghost use Rattle.environment_sets.specs.Sets.{◌⊆◌};
+ghost use Rattle.circuit_model.specs.Diagnoses.{AreRefuted};
+ghost use Rattle.circuit_model.specs.Present.{circuit_of};
 ghost use Rattle.circuit_model.specs.Stock.{IsRefutedBy};
 ghost use Rattle.circuit_model.specs.Whole.{stock};
 ghost use Rattle.present_closure.specs.Finding.{members};
 ghost use Rattle.plain_answers.specs.Subsets.{sets, Keeps};
-ghost use Rattle.plain_answers.specs.Tests.{Passes, HasFact, IsLeastIn, IsDecided};
+ghost use Rattle.plain_answers.specs.Tests.{Passes, HasFact, IsLeastIn, IsDecided, IsRepaired, AreParts, AreOthers, positions};
 
 use circuit_model::{Fact, Present};
 use present_closure::{Closed, Environment, close_environment};
@@ -19,6 +21,10 @@ pub enum Test {
     Has(Fact),
     /// It contradicts itself.
     Clashes,
+    /// Its components contradict the measurements.
+    Refuted,
+    /// Without its components nothing contradicts the measurements.
+    Repaired,
 }
 
 /// Those that pass the test.
@@ -52,6 +58,8 @@ fn passes(
     match test {
         Test::Has(fact) => has(alloc, present, fact, one),
         Test::Clashes => clashes(alloc, present, one),
+        Test::Refuted => refuted(alloc, present, one),
+        Test::Repaired => repaired(alloc, present, one),
     }
 }
 
@@ -82,6 +90,46 @@ fn clashes(alloc: Global, present: &Present, one: &Environment) -> Result<bool, 
         Closed::Clash => Ok(true),
         Closed::Facts(_) => Ok(false),
     }
+}
+
+fn refuted(alloc: Global, present: &Present, one: &Environment) -> Result<bool, AllocError>
+    requires { present.now.cycles ≡ 1 }
+    ensures { IfOk result (λ b. IsDecided b (AreRefuted (circuit_of present.now) (positions (members one.now)))) }
+{
+    let alone = one.parts_alone();
+    are_refuted(alloc, present, &alone)
+}
+
+fn repaired(alloc: Global, present: &Present, one: &Environment) -> Result<bool, AllocError>
+    requires { present.now.cycles ≡ 1 }
+    ensures { IfOk result (λ b. IsDecided b (IsRepaired present.now (positions (members one.now)))) }
+{
+    let others = other_parts(present, one);
+    let clash = are_refuted(alloc, present, &others)?;
+    Ok(!clash)
+}
+
+/// Whether the components contradict the measurements.
+fn are_refuted(alloc: Global, present: &Present, parts: &Environment) -> Result<bool, AllocError>
+    requires one_cycle { present.now.cycles ≡ 1 }
+    requires parts { AreParts (members parts.now) }
+    ensures { IfOk result (λ b. IsDecided b (AreRefuted (circuit_of present.now) (positions (members parts.now)))) }
+{
+    let all = parts.with_readings_of(present);
+    clashes(alloc, present, &all)
+}
+
+/// The components that the environment does not have.
+fn other_parts(present: &Present, one: &Environment) -> Environment
+    ensures { AreOthers (length present.now.parts) (members one.now) (members result) }
+{
+    let mut others = Environment::empty();
+    for place in 0..present.parts() {
+        if !one.has_part(place) {
+            others = others.with_part(place);
+        }
+    }
+    others
 }
 
 /// Those that have no smaller one among them.

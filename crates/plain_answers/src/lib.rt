@@ -5,5 +5,5 @@ mod answers;
 mod keeping;
 mod subsets;
 
-pub use answers::{label, nogoods};
+pub use answers::{conflicts, diagnoses, label, nogoods};
 pub use subsets::environments;

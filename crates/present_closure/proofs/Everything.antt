@@ -32,7 +32,7 @@ use Rattle.present_closure.specs.Finding.{members, Finds}
 use Rattle.present_closure.specs.Sets.{IsEmpty}
 use Rattle.present_closure.proofs.Measured.{measured_fact}
 
-is_some-map : {X Y : Type 0} (f : X → Y) (o : Option X) → is_some (option_map f o) ≡ is_some o
+pub is_some-map : {X Y : Type 0} (f : X → Y) (o : Option X) → is_some (option_map f o) ≡ is_some o
 is_some-map f None = refl
 is_some-map f (Some x) = refl
 

@@ -23,7 +23,7 @@ impl Environment {
     ghost use Rattle.circuit_model.specs.Kinds.{cell_at};
     ghost use Rattle.circuit_model.specs.Present.{MOST_PARTS, MOST_NETS};
     ghost use Rattle.circuit_model.specs.Whole.{everything};
-    ghost use Rattle.present_closure.specs.Everything.{IsWithParts, IsWithReadings};
+    ghost use Rattle.present_closure.specs.Everything.{IsPartsOf, IsWithParts, IsWithReadings};
     ghost use Rattle.present_closure.specs.Finding.{members};
     ghost use Rattle.present_closure.specs.Sets.{IsEmpty, IsWith, IsUnion};
 
@@ -63,6 +63,16 @@ impl Environment {
         let _cycles = present.cycles();
         set_measured(present, &mut self.nets);
         self
+    }
+
+    /// Its components alone.
+    pub fn parts_alone(&self) -> Environment
+        ensures { IsPartsOf (members self.now) (members result) }
+    {
+        Environment {
+            parts: self.parts,
+            nets: [false; 256],
+        }
     }
 
     /// The same with a component.
