@@ -7,3 +7,6 @@ mod subsets;
 
 pub use answers::{conflicts, diagnoses, label, nogoods};
 pub use subsets::environments;
+
+#[cfg(test)]
+mod tests;
