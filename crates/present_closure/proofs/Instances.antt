@@ -1,5 +1,5 @@
 -- The instances of a present of one cycle.
-use Rattle.std.proofs.Common.{◌≡◌, ℕ, zero, suc, ◌+◌, ◌<◌, List, [], ◌∷◌, length, map, Some, slice_get, slice_index, refl, sym, ap, subst, ◌∙◌, below_more, arith}
+use Rattle.std.proofs.Common.{◌≡◌, ℕ, zero, suc, ◌+◌, ◌<◌, List, [], ◌∷◌, length, map, Some, IsTrue, slice_get, slice_index, refl, sym, ap, subst, ◌∙◌, below_more, arith}
 use Rattle.std.specs.List.{All, Contains}
 use Rattle.std.specs.Option.{option_map}
 use Rattle.std.proofs.lemmas.List.{length-map, get_or-map}
@@ -12,6 +12,8 @@ use Rattle.circuit_model.specs.declared.model.Assumption.TheVariants.{Part}
 use Rattle.circuit_model.specs.declared.present.Component.{Component}
 use Rattle.circuit_model.specs.Kinds.{cell_at, primitive_of, instance_at, reset_instance, three_times, instances}
 use Rattle.circuit_model.specs.Lawful as lawful
+use Rattle.environment_sets.specs.Sets.{Set}
+use Rattle.circuit_model.specs.Diagnoses.{Place, AtPart}
 use Rattle.circuit_model.specs.Present.{Setup, width_of, IsLawfulComponent}
 use Rattle.present_closure.specs.Closing.{IsClosable, IsInstanceAt}
 
@@ -88,9 +90,10 @@ first_cells s (Reg reset) nets three within = one_net s nets three within
 first_cells s _ nets three within = each_net s nets three within
 
 -- an instance of a component of the present
-pub instance_at_place : (s : Setup) → IsClosable s → (place : ℕ) (c : Component) → slice_get s.parts place ≡ Some c → (instance : Instance) → Contains c.part instance → lawful.IsLawful instance → IsInstanceAt s place instance
-instance_at_place s closable place c e instance of_part good = record {
+pub instance_at_place : (s : Setup) (E : Set Place) → IsClosable s → (place : ℕ) → IsTrue (E (AtPart place)) → (c : Component) → slice_get s.parts place ≡ Some c → (instance : Instance) → Contains c.part instance → lawful.IsLawful instance → IsInstanceAt s E place instance
+instance_at_place s E closable place chosen c e instance of_part good = record {
   part = c.part;
+  chosen = chosen;
   assumed = ap (option_map Part) (slice_get-map (λ (c : Component). c.part) s.parts place ∙ ap (option_map (λ (c : Component). c.part)) e);
   of_part = of_part;
   lawful = good;

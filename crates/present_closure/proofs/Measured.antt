@@ -1,10 +1,11 @@
 -- Measured words.
-use Rattle.std.proofs.Common.{◌≡◌, ℕ, suc, ◌+◌, ◌<◌, Bool, true, false, List, [], ◌∷◌, length, Option, Some, None, IsSome, is_some, slice_set, if◌then◌else◌, inl, inr, refl, sym, ap, ap₂, subst, ◌∙◌, arith}
+use Rattle.std.proofs.Common.{◌≡◌, ℕ, suc, ◌+◌, ◌<◌, Bool, true, false, List, [], ◌∷◌, length, Option, Some, None, IsTrue, slice_set, if◌then◌else◌, inl, inr, refl, sym, ap, ap₂, subst, ◌∙◌, arith}
 use Rattle.std.specs.List.{Contains}
 use Rattle.std.specs.Option.{option_map}
 use Rattle.std.proofs.lemmas.List.{get_or_past, get_or-set_same, get_or-set_other}
 use Rattle.std.proofs.lemmas.Bool.{cases_eq, cases_lt}
 use Rattle.std.proofs.lemmas.Bool.Decides.{nat_tests}
+use Rattle.environment_sets.specs.Sets.{Set}
 use Rattle.circuit_model.specs.declared.model.Cell.{Cell}
 use Rattle.circuit_model.specs.declared.model.Fact.{Fact}
 use Rattle.circuit_model.specs.declared.model.Assumption.TheVariants.{Reading}
@@ -49,12 +50,12 @@ measured_fact s lawful c v e =
     subst (λ (f : Fact). IsFactOf s f) same is
 
 -- it follows from its measurement
-pub measured_backed : (s : Setup) → IsLawful s → (net v : ℕ) (empty : Environment) (from : Environment) → IsEmpty (members empty) → IsWith (members empty) (AtCell (cell_at 0 net)) (members from) → reading_in s.readings (cell_at 0 net) ≡ Some v → IsBacked s net (record { value = v; from = from })
-measured_backed s lawful net v empty from none with e = record {
+pub measured_backed : (s : Setup) (E : Set Place) → IsLawful s → (net v : ℕ) (empty : Environment) (from : Environment) → IsTrue (E (AtCell (cell_at 0 net))) → IsEmpty (members empty) → IsWith (members empty) (AtCell (cell_at 0 net)) (members from) → reading_in s.readings (cell_at 0 net) ≡ Some v → IsBacked s E net (record { value = v; from = from })
+measured_backed s E lawful net v empty from chosen none with e = record {
   fits = (measured_fact s lawful (cell_at 0 net) v e).fits;
-  environment = λ k h. elim (with.only k h) [
+  within = λ k h. elim (with.only k h) [
     | inl m ↦ absurd (none k m)
-    | inr is ↦ let P : Place → Type 0 = λ k. IsSome (stock s k) in subst P (sym is) (ap is_some named)
+    | inr is ↦ let P : Place → Type 0 = λ k. IsTrue (E k) in subst P (sym is) chosen
   ];
   follows = (0, record { name = AtCell (cell_at 0 net); chosen = with.has; named = named });
 } where
@@ -62,32 +63,32 @@ measured_backed s lawful net v empty from none with e = record {
   named = ap (option_map (λ (v : ℕ). Reading (fact (cell_at 0 net) v))) e
 
 -- one net more is looked at
-pub measured_more : (s : Setup) (table : Table) (n : ℕ) (o : Option Held) → n < length table → ((net : ℕ) → net < n → IsMeasured s net (held_at table net)) → IsMeasured s n o → (net : ℕ) → net < n + 1 → IsMeasured s net (held_at (slice_set table n o) net)
-measured_more s table n o inside below here net low = elim (cases_eq net n) [
+pub measured_more : (s : Setup) (E : Set Place) (table : Table) (n : ℕ) (o : Option Held) → n < length table → ((net : ℕ) → net < n → IsMeasured s E net (held_at table net)) → IsMeasured s E n o → (net : ℕ) → net < n + 1 → IsMeasured s E net (held_at (slice_set table n o) net)
+measured_more s E table n o inside below here net low = elim (cases_eq net n) [
   | inl is ↦
-      let P : Option Held → Type 0 = λ o. IsMeasured s n o in
-      let at_n : IsMeasured s n (held_at (slice_set table n o) n) = subst P (sym (get_or-set_same table n o None inside)) here in
-      subst (λ (net : ℕ). IsMeasured s net (held_at (slice_set table n o) net)) (sym is) at_n
+      let P : Option Held → Type 0 = λ o. IsMeasured s E n o in
+      let at_n : IsMeasured s E n (held_at (slice_set table n o) n) = subst P (sym (get_or-set_same table n o None inside)) here in
+      subst (λ (net : ℕ). IsMeasured s E net (held_at (slice_set table n o) net)) (sym is) at_n
   | inr differ ↦
-      let P : Option Held → Type 0 = λ o. IsMeasured s net o in
+      let P : Option Held → Type 0 = λ o. IsMeasured s E net o in
       subst P (sym (get_or-set_other table n net o None differ)) (below net (omega arith))
 ]
 
--- where each net is looked at, the table is sound and has all measured words
-module _ (s : Setup) (lawful : IsLawful s) (table : Table) (wide : length table ≡ length s.nets) (each : (net : ℕ) → net < length s.nets → IsMeasured s net (held_at table net)) where
-  pub measured_sound : IsSound s table
+-- where each net is looked at, the table is sound and has all measured words of E
+module _ (s : Setup) (E : Set Place) (lawful : IsLawful s) (table : Table) (wide : length table ≡ length s.nets) (each : (net : ℕ) → net < length s.nets → IsMeasured s E net (held_at table net)) where
+  pub measured_sound : IsSound s E table
   measured_sound = record { wide = wide; backed = backed } where
-    backed : (net : ℕ) (h : Held) → held_at table net ≡ Some h → IsBacked s net h
+    backed : (net : ℕ) (h : Held) → held_at table net ≡ Some h → IsBacked s E net h
     backed net h e = elim (cases_lt net (length s.nets)) [
       | inl inside ↦
-          let P : Option Held → Type 0 = λ o. IsMeasured s net o in
-          let m : IsMeasured s net (Some h) = subst P e (each net inside) in
+          let P : Option Held → Type 0 = λ o. IsMeasured s E net o in
+          let m : IsMeasured s E net (Some h) = subst P e (each net inside) in
           m.1
       | inr past ↦ let none : held_at table net ≡ None = get_or_past table net None (omega (arith, wide)) in cc
     ]
 
-  pub measured_readings : HasReadings s table
-  measured_readings net v e = by_held (held_at table net) (each net (measured_fact s lawful (cell_at 0 net) v e).net) where
-    by_held : (o : Option Held) → IsMeasured s net o → option_map value_of o ≡ Some v
-    by_held None none = let there = e in cc
+  pub measured_readings : HasReadings s E table
+  measured_readings net v chosen e = by_held (held_at table net) (each net (measured_fact s lawful (cell_at 0 net) v e).net) where
+    by_held : (o : Option Held) → IsMeasured s E net o → option_map value_of o ≡ Some v
+    by_held None none = let there = e in let nothing = none chosen in cc
     by_held (Some h) m = sym m.0 ∙ e

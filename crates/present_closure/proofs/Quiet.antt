@@ -1,7 +1,8 @@
--- Where nothing is left to put in, the table is the closure of everything.
-use Rattle.std.proofs.Common.{◌≡◌, ℕ, zero, suc, List, [], ◌∷◌, map, Option, Some, None, slice_get, refl, sym, ap, subst, ◌∙◌, arith}
+-- Where nothing is left to put in, the table is the closure of the environment.
+use Rattle.std.proofs.Common.{◌≡◌, IsTrue, ℕ, zero, suc, List, [], ◌∷◌, map, Option, Some, None, slice_get, refl, sym, ap, subst, ◌∙◌, arith}
 use Rattle.std.specs.List.{Contains}
 use Rattle.std.specs.Option.{option_map}
+use Rattle.environment_sets.specs.Sets.{Set}
 use Rattle.circuit_model.specs.declared.model.Cell.{Cell}
 use Rattle.circuit_model.specs.declared.model.Fact.{Fact}
 use Rattle.circuit_model.specs.declared.model.Instance.{Instance}
@@ -10,9 +11,9 @@ use Rattle.circuit_model.specs.declared.model.Assumption.TheVariants.{Part, Read
 use Rattle.circuit_model.specs.declared.present.Component.{Component}
 use Rattle.circuit_model.specs.Closure.{fact, AreHeld, AreTwoWords}
 use Rattle.circuit_model.specs.Stock.{IsChosen, Has, IsRefutedBy}
-use Rattle.circuit_model.specs.Diagnoses.{AtPart, AtCell}
+use Rattle.circuit_model.specs.Diagnoses.{Place, AtPart, AtCell}
 use Rattle.circuit_model.specs.Present.{Setup, reading_in, IsFactOf}
-use Rattle.circuit_model.specs.Whole.{stock, everything}
+use Rattle.circuit_model.specs.Whole.{stock}
 use Rattle.circuit_model.proofs.Rounds as rounds
 use Rattle.circuit_model.proofs.Rounds.{Follows-within, Clashes-within}
 use Rattle.present_closure.specs.declared.table.Held.{Held}
@@ -38,31 +39,31 @@ part_at [] place part e = cc
 part_at (c ∷ components) zero part e = (c, refl, cc)
 part_at (c ∷ components) (suc place) part e = part_at components place part e
 
-module _ (s : Setup) (table : Table) (closable : IsClosable s) (readings : HasReadings s table) (settled : IsSettled s table) where
+module _ (s : Setup) (E : Set Place) (table : Table) (closable : IsClosable s) (readings : HasReadings s E table) (settled : IsSettled s E table) where
   abbrev A : Assumption → Type 0
-  A = IsChosen (stock s) (everything s)
+  A = IsChosen (stock s) E
 
   -- an assumed part is the one of a component
-  component_of : (part : List Instance) → A (Part part) → (place : ℕ) × (c : Component) × (slice_get s.parts place ≡ Some c) × (c.part ≡ part)
-  component_of part a = elim a.name as (λ k. stock s k ≡ Some (Part part) → (place : ℕ) × (c : Component) × (slice_get s.parts place ≡ Some c) × (c.part ≡ part)) [
-    | AtPart place ↦ λ e. let p : (c : Component) × (slice_get s.parts place ≡ Some c) × (c.part ≡ part) = part_at s.parts place part e in (place, p.0, p.1, p.2)
-    | AtCell c ↦ λ e. absurd (not_part _ c part e)
-  ] a.named
+  component_of : (part : List Instance) → A (Part part) → (place : ℕ) × (c : Component) × (slice_get s.parts place ≡ Some c) × (c.part ≡ part) × IsTrue (E (AtPart place))
+  component_of part a = elim a.name as (λ k. stock s k ≡ Some (Part part) → IsTrue (E k) → (place : ℕ) × (c : Component) × (slice_get s.parts place ≡ Some c) × (c.part ≡ part) × IsTrue (E (AtPart place))) [
+    | AtPart place ↦ λ e chosen. let p : (c : Component) × (slice_get s.parts place ≡ Some c) × (c.part ≡ part) = part_at s.parts place part e in (place, p.0, p.1, p.2, chosen)
+    | AtCell c ↦ λ e chosen. absurd (not_part _ c part e)
+  ] a.named a.chosen
 
   -- an assumed reading is a measurement
   reading_of : (f : Fact) → A (Reading f) → IsIn table f
-  reading_of f a = elim a.name as (λ k. stock s k ≡ Some (Reading f) → IsIn table f) [
-    | AtPart place ↦ λ e. absurd (not_reading _ f e)
-    | AtCell c ↦ λ e. is_in c e
-  ] a.named where
-    is_in : (c : Cell) → stock s (AtCell c) ≡ Some (Reading f) → IsIn table f
-    is_in c e =
+  reading_of f a = elim a.name as (λ k. stock s k ≡ Some (Reading f) → IsTrue (E k) → IsIn table f) [
+    | AtPart place ↦ λ e chosen. absurd (not_reading _ f e)
+    | AtCell c ↦ λ e chosen. is_in c e chosen
+  ] a.named a.chosen where
+    is_in : (c : Cell) → stock s (AtCell c) ≡ Some (Reading f) → IsTrue (E (AtCell c)) → IsIn table f
+    is_in c e chosen =
         let r : (reading_in s.readings c ≡ Some f.value) × (c ≡ f.cell) = is_reading (reading_in s.readings c) c f e in
         let is : IsFactOf s (fact c f.value) = measured_fact s closable.lawful c f.value r.0 in
         let one = is.cycle in
         let zeroth : c.cycle ≡ 0 = omega (arith, closable.one_cycle) in
         let cell_in : ℕ → Cell = λ t. record { net = c.net; cycle = t } in
-        let word : word_at table c.net ≡ Some f.value = readings c.net f.value (ap (λ (t : ℕ). reading_in s.readings (cell_in t)) (sym zeroth) ∙ r.0) in
+        let word : word_at table c.net ≡ Some f.value = readings c.net f.value (subst (λ (t : ℕ). IsTrue (E (AtCell (cell_in t)))) zeroth chosen) (ap (λ (t : ℕ). reading_in s.readings (cell_in t)) (sym zeroth) ∙ r.0) in
         record {
           cycle = ap (λ (c : Cell). c.cycle) (sym r.1) ∙ zeroth;
           word = ap (λ (c : Cell). word_at table c.net) (sym r.1) ∙ word;
@@ -70,9 +71,9 @@ module _ (s : Setup) (table : Table) (closable : IsClosable s) (readings : HasRe
 
   settled_at : (part : List Instance) → A (Part part) → (instance : Instance) → Contains part instance → (known : List (Option ℕ)) → AreHeld (IsIn table) instance.cells known → IsSettledAt table instance known
   settled_at part a instance of_part known held =
-      let c : (place : ℕ) × (c : Component) × (slice_get s.parts place ≡ Some c) × (c.part ≡ part) = component_of part a in
+      let c : (place : ℕ) × (c : Component) × (slice_get s.parts place ≡ Some c) × (c.part ≡ part) × IsTrue (E (AtPart place)) = component_of part a in
       let P : List Instance → Type 0 = λ part. Contains part instance in
-      settled c.0 c.1 c.2 instance (subst P (sym c.3) of_part) known held
+      settled c.0 c.4 c.1 c.2 instance (subst P (sym c.3) of_part) known held
 
   closed : rounds.IsClosed A (IsIn table)
   closed = record {
@@ -86,31 +87,10 @@ module _ (s : Setup) (table : Table) (closable : IsClosable s) (readings : HasRe
       let b : word_at table t.cell.net ≡ Some t.high = t.high_holds.word in
       t.differ cc
 
-  -- what follows from everything is held
-  pub quiet_complete : (f : Fact) → Has (stock s) f (everything s) → IsIn table f
+  -- what follows from E is held
+  pub quiet_complete : (f : Fact) → Has (stock s) f E → IsIn table f
   quiet_complete f h = Follows-within A (IsIn table) closed f h
 
   -- and nothing clashes
-  pub quiet_consistent : IsRefutedBy (stock s) (everything s) → ⊥
+  pub quiet_consistent : IsRefutedBy (stock s) E → ⊥
   quiet_consistent clash = Clashes-within A (IsIn table) closed one_word (λ r. (settled_at r.part r.assumed r.instance r.of_part r.known r.from).fine r.refutes) clash
-
--- what a closed table has at a cell is what is found there
-module _ (s : Setup) (table : Table) (closed : IsClosed s table) (c : Cell) (zeroth : c.cycle ≡ 0) where
-  pub value_found : (h : Held) → held_at table c.net ≡ Some h → IsValue s c h.value h.from
-  value_found h e =
-      let backed : IsBacked s c.net h = closed.sound.backed c.net h e in
-      let cell_in : ℕ → Cell = λ t. record { net = c.net; cycle = t } in
-      record {
-        consistent = closed.consistent;
-        environment = backed.environment;
-        follows = subst (λ (t : ℕ). Has (stock s) (fact (cell_in t) h.value) (members h.from)) (sym zeroth) backed.follows;
-      }
-
-  pub nothing_found : held_at table c.net ≡ None → IsSilent s c
-  nothing_found e = record {
-    consistent = closed.consistent;
-    nothing = λ v h.
-        let word : word_at table c.net ≡ Some v = (closed.complete (fact c v) h).word in
-        let none : word_at table c.net ≡ None = ap (option_map value_of) e in
-        cc;
-  }

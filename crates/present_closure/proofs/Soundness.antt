@@ -1,5 +1,5 @@
 -- What is taken from sound words is sound.
-use Rattle.std.proofs.Common.{◌≡◌, ◌≢◌, ℕ, zero, suc, ◌<◌, ◌^◌, inl, inr, List, [], ◌∷◌, length, Option, Some, IsSome, is_some, slice_get, get_or, sym, ap, subst, ◌∙◌, arith}
+use Rattle.std.proofs.Common.{◌≡◌, ◌≢◌, IsTrue, ℕ, zero, suc, ◌<◌, ◌^◌, inl, inr, List, [], ◌∷◌, length, Option, Some, slice_get, get_or, sym, ap, subst, ◌∙◌, arith}
 use Rattle.std.specs.Option.{option_map}
 use Rattle.std.proofs.lemmas.Option.{slice_get-get_or, slice_get_within}
 use Rattle.std.proofs.lemmas.List.{length-map}
@@ -9,10 +9,10 @@ use Rattle.circuit_model.specs.declared.model.Instance.{Instance}
 use Rattle.circuit_model.specs.Closure.{fact, AreHeld}
 use Rattle.circuit_model.specs.Inference.{Forces, Refutes, FitEach}
 use Rattle.circuit_model.specs.Kinds.{cell_at}
-use Rattle.circuit_model.specs.Stock.{IsChosen, IsEnvironment, Has, IsRefutedBy}
+use Rattle.circuit_model.specs.Stock.{IsChosen, Has, IsRefutedBy}
 use Rattle.circuit_model.specs.Diagnoses.{Place, AtPart}
 use Rattle.circuit_model.specs.Present.{Setup, width_of}
-use Rattle.circuit_model.specs.Whole.{stock, everything}
+use Rattle.circuit_model.specs.Whole.{stock}
 use Rattle.circuit_model.proofs.Monotony.{Has-more}
 use Rattle.circuit_model.proofs.Rounds.{Follows-forced, Clashes-refuted, Clashes-two_words}
 use Rattle.present_closure.specs.declared.environment.Environment.{Environment}
@@ -28,7 +28,7 @@ FitEach-at [] (x ∷ t) p w v h k e = absurd h
 FitEach-at (u ∷ widths) (x ∷ t) zero w v h k e = let a : u ≡ w = cc in let b : x ≡ v = cc in let P : ℕ → ℕ → Type 0 = λ x u. x < 2 ^ u in subst (λ (u : ℕ). P v u) a (subst (λ (x : ℕ). P x u) b h.0)
 FitEach-at (u ∷ widths) (x ∷ t) (suc p) w v h k e = FitEach-at widths t p w v h.1 k e
 
-module _ (s : Setup) (table : Table) (sound : IsSound s table) (place : ℕ) (instance : Instance) (at : IsInstanceAt s place instance) where
+module _ (s : Setup) (E : Set Place) (table : Table) (sound : IsSound s E table) (place : ℕ) (instance : Instance) (at : IsInstanceAt s E place instance) where
   cell_is : (port : ℕ) (c : Cell) → slice_get instance.cells port ≡ Some c → cell_at 0 c.net ≡ c
   cell_is port c e =
       let zeroth : c.cycle ≡ 0 = (at.at_nets port c e).0 in
@@ -44,19 +44,19 @@ module _ (s : Setup) (table : Table) (sound : IsSound s table) (place : ℕ) (in
         subst (λ (c : Cell). held_at table c.net ≡ Some h) same t.2
 
     -- the words hold where what they follow from is assumed
-    words_held : (E : Set Place) → ((port : ℕ) (h : Held) → slice_get held port ≡ Some (Some h) → members h.from ⊆ E) → AreHeld (λ g. Has (stock s) g E) instance.cells (words_of held)
-    words_held E antecedents = record {
+    words_held : (F : Set Place) → ((port : ℕ) (h : Held) → slice_get held port ≡ Some (Some h) → members h.from ⊆ F) → AreHeld (λ g. Has (stock s) g F) instance.cells (words_of held)
+    words_held F antecedents = record {
       wide = length-map held (option_map value_of) ∙ kept.three;
       held = holds;
       alike = same;
     } where
-      holds : (p v : ℕ) (c : Cell) → slice_get (words_of held) p ≡ Some (Some v) → slice_get instance.cells p ≡ Some c → Has (stock s) (fact c v) E
+      holds : (p v : ℕ) (c : Cell) → slice_get (words_of held) p ≡ Some (Some v) → slice_get instance.cells p ≡ Some c → Has (stock s) (fact c v) F
       holds p v c k e =
           let w : (h : Held) × (slice_get held p ≡ Some (Some h)) × (h.value ≡ v) = words_of_at held p v k in
           let h : Held = w.0 in
-          let backed : IsBacked s c.net h = sound.backed c.net h (at_cell p h c w.1 e) in
-          let there : Has (stock s) (fact (cell_at 0 c.net) h.value) E = Has-more (stock s) _ (members h.from) E (antecedents p h w.1) backed.follows in
-          let P : Cell → ℕ → Type 0 = λ c v. Has (stock s) (fact c v) E in
+          let backed : IsBacked s E c.net h = sound.backed c.net h (at_cell p h c w.1 e) in
+          let there : Has (stock s) (fact (cell_at 0 c.net) h.value) F = Has-more (stock s) _ (members h.from) F (antecedents p h w.1) backed.follows in
+          let P : Cell → ℕ → Type 0 = λ c v. Has (stock s) (fact c v) F in
           subst (λ (v : ℕ). P c v) w.2 (subst (λ (c : Cell). P c h.value) (cell_is p c e) there)
 
       same : (p q v w : ℕ) (c : Cell) → slice_get (words_of held) p ≡ Some (Some v) → slice_get instance.cells p ≡ Some c → slice_get (words_of held) q ≡ Some (Some w) → slice_get instance.cells q ≡ Some c → v ≡ w
@@ -77,16 +77,16 @@ module _ (s : Setup) (table : Table) (sound : IsSound s table) (place : ℕ) (in
         let width : w ≡ width_of s t.0.net = at.of_width p w t.0 t.1 e in
         rw (← a.2, width) fits
 
-    antecedent_environment : (port : ℕ) (h : Held) → slice_get held port ≡ Some (Some h) → IsEnvironment (stock s) (members h.from)
-    antecedent_environment port h k =
+    antecedent_within : (port : ℕ) (h : Held) → slice_get held port ≡ Some (Some h) → members h.from ⊆ E
+    antecedent_within port h k =
         let t : (c : Cell) × (slice_get instance.cells port ≡ Some c) × (held_at table c.net ≡ Some h) = kept.there port h k in
-        (sound.backed t.0.net h t.2).environment
+        (sound.backed t.0.net h t.2).within
 
     module _ (from : Environment) (support : IsSupport place held (members from)) where
-      support_environment : IsEnvironment (stock s) (members from)
-      support_environment k h = elim (support.only k h) [
-        | inl e ↦ let P : Place → Type 0 = λ k. IsSome (stock s k) in subst P (sym e) (ap is_some at.assumed)
-        | inr a ↦ antecedent_environment a.0 a.1 a.2 k a.3
+      support_within : members from ⊆ E
+      support_within k h = elim (support.only k h) [
+        | inl e ↦ let P : Place → Type 0 = λ k. IsTrue (E k) in subst P (sym e) at.chosen
+        | inr a ↦ antecedent_within a.0 a.1 a.2 k a.3
       ]
 
       forced_follows : (port v : ℕ) (c : Cell) → slice_get instance.cells port ≡ Some c → Forces instance.prim instance.widths (words_of held) port v → Has (stock s) (fact c v) (members from)
@@ -103,10 +103,10 @@ module _ (s : Setup) (table : Table) (sound : IsSound s table) (place : ℕ) (in
       })
 
       -- what they force follows from what they follow from, with the component
-      pub forced_backed : (port v : ℕ) (c : Cell) → slice_get instance.cells port ≡ Some c → Forces instance.prim instance.widths (words_of held) port v → IsBacked s c.net (record { value = v; from = from })
+      pub forced_backed : (port v : ℕ) (c : Cell) → slice_get instance.cells port ≡ Some c → Forces instance.prim instance.widths (words_of held) port v → IsBacked s E c.net (record { value = v; from = from })
       forced_backed port v c e forces = record {
         fits = fits;
-        environment = support_environment;
+        within = support_within;
         follows = let P : Cell → Type 0 = λ c. Has (stock s) (fact c v) (members from) in subst P (sym (cell_is port c e)) (forced_follows port v c e forces);
       } where
         fits : v < 2 ^ width_of s c.net
@@ -119,25 +119,25 @@ module _ (s : Setup) (table : Table) (sound : IsSound s table) (place : ℕ) (in
             let below : v < 2 ^ w = FitEach-at instance.widths t port w v forces.some_tuple.1.fits width there in
             rw (← at.of_width port w c e width) below
 
-    -- what they refute is a clash of everything
-    pub refuted_clash : Refutes instance.prim instance.widths (words_of held) → IsRefutedBy (stock s) (everything s)
-    refuted_clash refutes = Clashes-refuted (IsChosen (stock s) (everything s)) (record {
+    -- what they refute is a clash of E
+    pub refuted_clash : Refutes instance.prim instance.widths (words_of held) → IsRefutedBy (stock s) E
+    refuted_clash refutes = Clashes-refuted (IsChosen (stock s) E) (record {
       part = at.part;
-      assumed = record { name = AtPart place; chosen = ap is_some at.assumed; named = at.assumed };
+      assumed = record { name = AtPart place; chosen = at.chosen; named = at.assumed };
       instance = instance;
       of_part = at.of_part;
       known = words_of held;
-      from = words_held (everything s) (λ port h k. antecedent_environment port h k);
+      from = words_held E (λ port h k. antecedent_within port h k);
       refutes = refutes;
     })
 
--- two words at a net are a clash of everything
-pub two_words_clash : (s : Setup) (net : ℕ) (g h : Held) → IsBacked s net g → IsBacked s net h → g.value ≢ h.value → IsRefutedBy (stock s) (everything s)
-two_words_clash s net g h a b differ = Clashes-two_words (IsChosen (stock s) (everything s)) (record {
+-- two words at a net are a clash of E
+pub two_words_clash : (s : Setup) (E : Set Place) (net : ℕ) (g h : Held) → IsBacked s E net g → IsBacked s E net h → g.value ≢ h.value → IsRefutedBy (stock s) E
+two_words_clash s E net g h a b differ = Clashes-two_words (IsChosen (stock s) E) (record {
   cell = cell_at 0 net;
   low = g.value;
   high = h.value;
-  low_holds = Has-more (stock s) _ (members g.from) (everything s) (λ k e. a.environment k e) a.follows;
-  high_holds = Has-more (stock s) _ (members h.from) (everything s) (λ k e. b.environment k e) b.follows;
+  low_holds = Has-more (stock s) _ (members g.from) E (λ k e. a.within k e) a.follows;
+  high_holds = Has-more (stock s) _ (members h.from) E (λ k e. b.within k e) b.follows;
   differ = differ;
 })

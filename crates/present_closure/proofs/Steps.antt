@@ -7,8 +7,10 @@ use Rattle.std.proofs.lemmas.Bool.{cases_eq}
 use Rattle.circuit_model.specs.declared.model.Cell.{Cell}
 use Rattle.circuit_model.specs.declared.model.Instance.{Instance}
 use Rattle.circuit_model.specs.Stock.{IsRefutedBy}
+use Rattle.environment_sets.specs.Sets.{Set}
+use Rattle.circuit_model.specs.Diagnoses.{Place}
 use Rattle.circuit_model.specs.Present.{Setup, width_of}
-use Rattle.circuit_model.specs.Whole.{stock, everything}
+use Rattle.circuit_model.specs.Whole.{stock}
 use Rattle.present_closure.specs.declared.table.Held.{Held}
 use Rattle.present_closure.specs.declared.table.Step.{Step}
 use Rattle.present_closure.specs.declared.table.Step.TheVariants.{Quiet, Grew, Clash}
@@ -22,8 +24,8 @@ held_with None v e = cc
 held_with (Some h) v e = (h, refl, cc)
 
 -- an instance of the present is ready for a sound table
-pub ready_in_sound : (s : Setup) (table : Table) (place : ℕ) (instance : Instance) → IsSound s table → IsInstanceAt s place instance → IsReady table instance
-ready_in_sound s table place instance sound at = record {
+pub ready_in_sound : (s : Setup) (E : Set Place) (table : Table) (place : ℕ) (instance : Instance) → IsSound s E table → IsInstanceAt s E place instance → IsReady table instance
+ready_in_sound s E table place instance sound at = record {
   lawful = at.lawful;
   three = at.three;
   in_cycle = λ port c e. (at.at_nets port c e).0;
@@ -45,17 +47,17 @@ count_by-put table net h inside empty =
     let was : one (held_at table net) ≡ 1 = ap one empty in
     omega arith
 
-module _ (s : Setup) (table : Table) (net : ℕ) (h : Held) (inside : net < length table) (empty : held_at table net ≡ None) where
+module _ (s : Setup) (E : Set Place) (table : Table) (net : ℕ) (h : Held) (inside : net < length table) (empty : held_at table net ≡ None) where
   -- one word more in an empty place
-  pub sound_with : IsSound s table → IsBacked s net h → IsSound s (slice_set table net (Some h))
+  pub sound_with : IsSound s E table → IsBacked s E net h → IsSound s E (slice_set table net (Some h))
   sound_with sound backed = record { wide = length-set table net (Some h) ∙ sound.wide; backed = each } where
-    each : (other : ℕ) (g : Held) → held_at (slice_set table net (Some h)) other ≡ Some g → IsBacked s other g
+    each : (other : ℕ) (g : Held) → held_at (slice_set table net (Some h)) other ≡ Some g → IsBacked s E other g
     each other g e = elim (cases_eq other net) [
       | inl is ↦
           let here : held_at (slice_set table net (Some h)) net ≡ Some h = get_or-set_same table net (Some h) None inside in
           let there : held_at (slice_set table net (Some h)) net ≡ Some g = ap (λ (k : ℕ). held_at (slice_set table net (Some h)) k) (sym is) ∙ e in
           let same : h ≡ g = cc in
-          let P : ℕ → Held → Type 0 = λ k h. IsBacked s k h in
+          let P : ℕ → Held → Type 0 = λ k h. IsBacked s E k h in
           subst (λ (k : ℕ). P k g) (sym is) (subst (λ (h : Held). P net h) same backed)
       | inr differ ↦ sound.backed other g (sym (get_or-set_other table net other (Some h) None differ) ∙ e)
     ]
@@ -72,60 +74,60 @@ module _ (s : Setup) (table : Table) (net : ℕ) (h : Held) (inside : net < leng
     ]
 
 -- what is learnt from an instance of the present, told of the present
-module _ (s : Setup) (table new : Table) (place : ℕ) (instance : Instance) (sound : IsSound s table) (at : IsInstanceAt s place instance) where
-  forced_grows : PutsForced place instance table new Grew → IsSound s new × Grows table new
+module _ (s : Setup) (E : Set Place) (table new : Table) (place : ℕ) (instance : Instance) (sound : IsSound s E table) (at : IsInstanceAt s E place instance) where
+  forced_grows : PutsForced place instance table new Grew → IsSound s E new × Grows table new
   forced_grows f =
       let h : Held = record { value = f.value; from = f.from } in
-      let backed : IsBacked s f.cell.net h = forced_backed s table sound place instance at f.held f.kept f.from f.support f.port f.value f.cell f.at f.forces in
+      let backed : IsBacked s E f.cell.net h = forced_backed s E table sound place instance at f.held f.kept f.from f.support f.port f.value f.cell f.at f.forces in
       let inside : f.cell.net < length table = rw sound.wide (at.at_nets f.port f.cell f.at).1 in
-      let P : Table → Type 0 = λ new. IsSound s new × Grows table new in
-      subst P (sym f.puts.1) (sound_with s table f.cell.net h inside f.puts.0 sound backed, grows_with s table f.cell.net h inside f.puts.0)
+      let P : Table → Type 0 = λ new. IsSound s E new × Grows table new in
+      subst P (sym f.puts.1) (sound_with s E table f.cell.net h inside f.puts.0 sound backed, grows_with s E table f.cell.net h inside f.puts.0)
 
-  forced_clash : PutsForced place instance table new Clash → IsRefutedBy (stock s) (everything s)
+  forced_clash : PutsForced place instance table new Clash → IsRefutedBy (stock s) E
   forced_clash f =
       let h : Held = record { value = f.value; from = f.from } in
-      let backed : IsBacked s f.cell.net h = forced_backed s table sound place instance at f.held f.kept f.from f.support f.port f.value f.cell f.at f.forces in
+      let backed : IsBacked s E f.cell.net h = forced_backed s E table sound place instance at f.held f.kept f.from f.support f.port f.value f.cell f.at f.forces in
       let known : (g : Held) × (held_at table f.cell.net ≡ Some g) × (g.value ≡ f.puts.0) = held_with (held_at table f.cell.net) f.puts.0 f.puts.1 in
-      two_words_clash s f.cell.net known.0 h (sound.backed f.cell.net known.0 known.1) backed (λ same. f.puts.2 (sym known.2 ∙ same))
+      two_words_clash s E f.cell.net known.0 h (sound.backed f.cell.net known.0 known.1) backed (λ same. f.puts.2 (sym known.2 ∙ same))
 
-  learnt_told : (X Y : Type 0) (step : Step) → (step ≡ Quiet → ⊥) → Learns place instance X table new step → Tells s Y table new step
+  learnt_told : (X Y : Type 0) (step : Step) → (step ≡ Quiet → ⊥) → Learns place instance X table new step → Tells s E Y table new step
   learnt_told X Y Quiet loud learns = absurd (loud refl)
   learnt_told X Y Grew loud learns = forced_grows learns
-  learnt_told X Y Clash loud (inl r) = refuted_clash s table sound place instance at r.held r.kept r.refutes
+  learnt_told X Y Clash loud (inl r) = refuted_clash s E table sound place instance at r.held r.kept r.refutes
   learnt_told X Y Clash loud (inr f) = forced_clash f
 
-pub Tells-learnt : (s : Setup) (place : ℕ) (instance : Instance) (X Y : Type 0) (table now new : Table) (step : Step) → IsSound s table → IsInstanceAt s place instance → now ≡ table → (step ≡ Quiet → ⊥) → Learns place instance X now new step → Tells s Y table new step
-Tells-learnt s place instance X Y table now new step sound at same loud learns =
+pub Tells-learnt : (s : Setup) (E : Set Place) (place : ℕ) (instance : Instance) (X Y : Type 0) (table now new : Table) (step : Step) → IsSound s E table → IsInstanceAt s E place instance → now ≡ table → (step ≡ Quiet → ⊥) → Learns place instance X now new step → Tells s E Y table new step
+Tells-learnt s E place instance X Y table now new step sound at same loud learns =
     let P : Table → Type 0 = λ now. Learns place instance X now new step in
-    learnt_told s table new place instance sound at X Y step loud (subst P same learns)
+    learnt_told s E table new place instance sound at X Y step loud (subst P same learns)
 
 -- the same for what was told of a part
-pub Tells-told : (s : Setup) (X Y : Type 0) (table now new : Table) (step : Step) → now ≡ table → (step ≡ Quiet → ⊥) → Tells s X now new step → Tells s Y table new step
-Tells-told s X Y table now new Quiet same loud tells = absurd (loud refl)
-Tells-told s X Y table now new Grew same loud tells =
-    let P : Table → Type 0 = λ table. IsSound s new × Grows table new in subst P same tells
-Tells-told s X Y table now new Clash same loud tells = tells
+pub Tells-told : (s : Setup) (E : Set Place) (X Y : Type 0) (table now new : Table) (step : Step) → now ≡ table → (step ≡ Quiet → ⊥) → Tells s E X now new step → Tells s E Y table new step
+Tells-told s E X Y table now new Quiet same loud tells = absurd (loud refl)
+Tells-told s E X Y table now new Grew same loud tells =
+    let P : Table → Type 0 = λ table. IsSound s E new × Grows table new in subst P same tells
+Tells-told s E X Y table now new Clash same loud tells = tells
 
 -- a quiet step
-pub Tells-quiet : (s : Setup) (Settled : Table → Type 0) (table now new : Table) (step : Step) → step ≡ Quiet → now ≡ table → Tells s (Settled now) now new step → (new ≡ table) × Settled table
-Tells-quiet s Settled table now new Quiet is same tells = (tells.0 ∙ same, subst Settled same tells.1)
-Tells-quiet s Settled table now new Grew is same tells = cc
-Tells-quiet s Settled table now new Clash is same tells = cc
+pub Tells-quiet : (s : Setup) (E : Set Place) (Settled : Table → Type 0) (table now new : Table) (step : Step) → step ≡ Quiet → now ≡ table → Tells s E (Settled now) now new step → (new ≡ table) × Settled table
+Tells-quiet s E Settled table now new Quiet is same tells = (tells.0 ∙ same, subst Settled same tells.1)
+Tells-quiet s E Settled table now new Grew is same tells = cc
+Tells-quiet s E Settled table now new Clash is same tells = cc
 
 -- where a pass is quiet, the table is closed
-pub closed_when_settled : (s : Setup) (table : Table) → IsClosable s → IsSound s table → HasReadings s table → IsSettled s table → IsClosed s table
-closed_when_settled s table closable sound readings settled = record {
+pub closed_when_settled : (s : Setup) (E : Set Place) (table : Table) → IsClosable s → IsSound s E table → HasReadings s E table → IsSettled s E table → IsClosed s E table
+closed_when_settled s E table closable sound readings settled = record {
   sound = sound;
-  complete = quiet_complete s table closable readings settled;
-  consistent = quiet_consistent s table closable readings settled;
+  complete = quiet_complete s E table closable readings settled;
+  consistent = quiet_consistent s E table closable readings settled;
 }
 
 -- measured words stay
-pub HasReadings-grows : (s : Setup) (table new : Table) → Grows table new → HasReadings s table → HasReadings s new
-HasReadings-grows s table new grows readings net v h = grows.keeps net v (readings net v h)
+pub HasReadings-grows : (s : Setup) (E : Set Place) (table new : Table) → Grows table new → HasReadings s E table → HasReadings s E new
+HasReadings-grows s E table new grows readings net v chosen h = grows.keeps net v (readings net v chosen h)
 
 -- a step with a word more
-pub Tells-grew : (s : Setup) (X : Type 0) (table new : Table) (step : Step) → step ≡ Grew → Tells s X table new step → IsSound s new × Grows table new
-Tells-grew s X table new Quiet is tells = cc
-Tells-grew s X table new Grew is tells = tells
-Tells-grew s X table new Clash is tells = cc
+pub Tells-grew : (s : Setup) (E : Set Place) (X : Type 0) (table new : Table) (step : Step) → step ≡ Grew → Tells s E X table new step → IsSound s E new × Grows table new
+Tells-grew s E X table new Quiet is tells = cc
+Tells-grew s E X table new Grew is tells = tells
+Tells-grew s E X table new Clash is tells = cc

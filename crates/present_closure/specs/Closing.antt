@@ -1,4 +1,4 @@
--- Closing a present of one cycle, word by word.
+-- Closing an environment of a present of one cycle, word by word.
 use Rattle.std.specs.Prelude.{◌≡◌, ◌≢◌, ℕ, ◌<◌, ◌^◌, ◌⊎◌, ◌&&◌, nat_lt, Bool, false, if◌then◌else◌, IsTrue, List, [], ◌∷◌, length, map, count_by, Option, Some, None, is_none, slice_get, slice_index_or, slice_set}
 use Rattle.std.specs.List.{Contains}
 use Rattle.std.specs.Option.{option_map, option_and_then}
@@ -12,11 +12,11 @@ use Rattle.circuit_model.specs.Closure.{fact, AreHeld}
 use Rattle.circuit_model.specs.Inference.{Forces, Refutes}
 use Rattle.circuit_model.specs.Lawful.{IsLawful}
 use Rattle.circuit_model.specs.Kinds.{cell_at}
-use Rattle.circuit_model.specs.Stock.{IsEnvironment, Has, IsRefutedBy}
-use Rattle.circuit_model.specs.Diagnoses.{Place, AtPart}
+use Rattle.circuit_model.specs.Stock.{Has, IsRefutedBy}
+use Rattle.circuit_model.specs.Diagnoses.{Place, AtPart, AtCell}
 use Rattle.circuit_model.specs.Present as present
 use Rattle.circuit_model.specs.Present.{Setup, width_of, reading_in}
-use Rattle.circuit_model.specs.Whole.{stock, everything}
+use Rattle.circuit_model.specs.Whole.{stock}
 use Rattle.present_closure.specs.declared.environment.Environment.{Environment}
 use Rattle.present_closure.specs.declared.table.Held.{Held}
 use Rattle.present_closure.specs.declared.table.Step.{Step}
@@ -41,25 +41,25 @@ pub record IsIn (table : Table) (f : Fact) : Type 0 where
   pub cycle : f.cell.cycle ≡ 0
   pub word : word_at table f.cell.net ≡ Some f.value
 
--- the word fits the net, and follows from what it is said to follow from
-pub record IsBacked (s : Setup) (net : ℕ) (h : Held) : Type 0 where
+-- the word fits the net, and follows from what it is said to follow from, a part of E
+pub record IsBacked (s : Setup) (E : Set Place) (net : ℕ) (h : Held) : Type 0 where
   pub fits : h.value < 2 ^ width_of s net
-  pub environment : IsEnvironment (stock s) (members h.from)
+  pub within : members h.from ⊆ E
   pub follows : Has (stock s) (fact (cell_at 0 net) h.value) (members h.from)
 
 -- a place for each net, and each word that is held follows
-pub record IsSound (s : Setup) (table : Table) : Type 0 where
+pub record IsSound (s : Setup) (E : Set Place) (table : Table) : Type 0 where
   pub wide : length table ≡ length s.nets
-  pub backed : (net : ℕ) (h : Held) → held_at table net ≡ Some h → IsBacked s net h
+  pub backed : (net : ℕ) (h : Held) → held_at table net ≡ Some h → IsBacked s E net h
 
--- each measured word is held
-abbrev pub HasReadings : Setup → Table → Type 0
-HasReadings s table = (net v : ℕ) → reading_in s.readings (cell_at 0 net) ≡ Some v → word_at table net ≡ Some v
+-- each measured word of E is held
+abbrev pub HasReadings : Setup → Set Place → Table → Type 0
+HasReadings s E table = (net v : ℕ) → IsTrue (E (AtCell (cell_at 0 net))) → reading_in s.readings (cell_at 0 net) ≡ Some v → word_at table net ≡ Some v
 
--- the measured word of the net, if there is one
-abbrev pub IsMeasured : Setup → ℕ → Option Held → Type 0
-IsMeasured s net None = reading_in s.readings (cell_at 0 net) ≡ None
-IsMeasured s net (Some h) = (reading_in s.readings (cell_at 0 net) ≡ Some h.value) × IsBacked s net h
+-- the measured word of the net, if there is one and E has it
+abbrev pub IsMeasured : Setup → Set Place → ℕ → Option Held → Type 0
+IsMeasured s E net None = IsTrue (E (AtCell (cell_at 0 net))) → reading_in s.readings (cell_at 0 net) ≡ None
+IsMeasured s E net (Some h) = (reading_in s.readings (cell_at 0 net) ≡ Some h.value) × IsBacked s E net h
 
 -- what is held at a port that the choice names
 abbrev pub kept_at : Table → Instance → List Bool → ℕ → Option Held
@@ -99,18 +99,23 @@ IsSettledPart table c = (instance : Instance) → Contains c.part instance → I
 abbrev pub IsSettledPlace : Setup → Table → ℕ → Type 0
 IsSettledPlace s table place = (c : Component) → slice_get s.parts place ≡ Some c → IsSettledPart table c
 
--- so for all components
-abbrev pub IsSettled : Setup → Table → Type 0
-IsSettled s table = (place : ℕ) → IsSettledPlace s table place
+-- so where E has the component
+abbrev pub IsSettledIn : Setup → Set Place → Table → ℕ → Type 0
+IsSettledIn s E table place = IsTrue (E (AtPart place)) → IsSettledPlace s table place
+
+-- so for all components of E
+abbrev pub IsSettled : Setup → Set Place → Table → Type 0
+IsSettled s E table = (place : ℕ) → IsSettledIn s E table place
 
 -- words stay, and one place fewer is empty
 pub record Grows (old new : Table) : Type 0 where
   pub keeps : (net w : ℕ) → word_at old net ≡ Some w → word_at new net ≡ Some w
   pub fewer : count_by is_none new < count_by is_none old
 
--- the instance is one of the component at the place, at cells of the present's one cycle
-pub record IsInstanceAt (s : Setup) (place : ℕ) (instance : Instance) : Type 0 where
+-- the instance is one of the component at the place, one of E, at cells of the present's one cycle
+pub record IsInstanceAt (s : Setup) (E : Set Place) (place : ℕ) (instance : Instance) : Type 0 where
   pub part : List Instance
+  pub chosen : IsTrue (E (AtPart place))
   pub assumed : stock s (AtPart place) ≡ Some (Part part)
   pub of_part : Contains part instance
   pub lawful : IsLawful instance
@@ -177,19 +182,19 @@ Learns place instance Settled old new Quiet = (new ≡ old) × Settled
 Learns place instance Settled old new Grew = PutsForced place instance old new Grew
 Learns place instance Settled old new Clash = IsRefutedAt old instance ⊎ PutsForced place instance old new Clash
 
--- What a step comes to: the table as it was, and settled; one word more, all of them sound; or a clash of everything.
-abbrev pub Tells : Setup → Type 0 → Table → Table → Step → Type 0
-Tells s Settled old new Quiet = (new ≡ old) × Settled
-Tells s Settled old new Grew = IsSound s new × Grows old new
-Tells s Settled old new Clash = IsRefutedBy (stock s) (everything s)
+-- What a step comes to: the table as it was, and settled; one word more, all of them sound; or a clash of E.
+abbrev pub Tells : Setup → Set Place → Type 0 → Table → Table → Step → Type 0
+Tells s E Settled old new Quiet = (new ≡ old) × Settled
+Tells s E Settled old new Grew = IsSound s E new × Grows old new
+Tells s E Settled old new Clash = IsRefutedBy (stock s) E
 
 -- a lawful present of one cycle
 pub record IsClosable (s : Setup) : Type 0 where
   pub lawful : present.IsLawful s
   pub one_cycle : s.cycles ≡ 1
 
--- all that follows is held, and nothing clashes
-pub record IsClosed (s : Setup) (table : Table) : Type 0 where
-  pub sound : IsSound s table
-  pub complete : (f : Fact) → Has (stock s) f (everything s) → IsIn table f
-  pub consistent : IsRefutedBy (stock s) (everything s) → ⊥
+-- all that follows from E is held, and nothing clashes
+pub record IsClosed (s : Setup) (E : Set Place) (table : Table) : Type 0 where
+  pub sound : IsSound s E table
+  pub complete : (f : Fact) → Has (stock s) f E → IsIn table f
+  pub consistent : IsRefutedBy (stock s) E → ⊥

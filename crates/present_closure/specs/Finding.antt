@@ -1,4 +1,4 @@
--- What is found at a cell.
+-- What is found in an environment, and at a cell.
 use Rattle.std.specs.Prelude.{ℕ, ◌==◌, ◌&&◌, false, slice_index_or}
 use Rattle.environment_sets.specs.Sets.{Set}
 use Rattle.circuit_model.specs.declared.model.Cell.{Cell}

@@ -1,11 +1,13 @@
-// Closing a present of one cycle.
+// Closing an environment of a present of one cycle.
 
 ghost use Rattle.std.specs.Prelude.{◌<◌, length, MatchBool};
 ghost use Rattle.circuit_model.specs.Present.{MOST_PARTS};
 ghost use Rattle.circuit_model.specs.Stock.{IsRefutedBy};
-ghost use Rattle.circuit_model.specs.Whole.{stock, everything};
-ghost use Rattle.present_closure.specs.Closing.{IsClosable, IsSound, HasReadings, IsClosed, IsReady, IsSettledFor, IsSettledPlace, IsSettled, Learns, Tells};
+ghost use Rattle.circuit_model.specs.Whole.{stock};
+ghost use Rattle.present_closure.specs.Closing.{IsClosable, IsSound, HasReadings, IsClosed, IsReady, IsSettledFor, IsSettledIn, IsSettled, Learns, Tells};
+ghost use Rattle.present_closure.specs.Finding.{members};
 
+use crate::environment::Environment;
 use crate::inferring::take_choice;
 use crate::table::{Held, Step};
 use circuit_model::{Instance, Present};
@@ -22,15 +24,15 @@ const CHOICES: [[bool; 3]; 8] = [
     [true, true, true],
 ];
 
-/// Puts in all that follows, and says whether the present contradicts itself.
-pub fn close(present: &Present, table: &mut [Option<Held>]) -> bool
+/// Puts in all that follows from the environment, and says whether it contradicts itself.
+pub fn close(present: &Present, chosen: &Environment, table: &mut [Option<Held>]) -> bool
     requires closable { IsClosable present.now }
-    requires sound { IsSound present.now table.old }
-    requires readings { HasReadings present.now table.old }
-    ensures { MatchBool result (IsRefutedBy (stock present.now) (everything present.now)) (IsClosed present.now table.new) }
+    requires sound { IsSound present.now (members chosen.now) table.old }
+    requires readings { HasReadings present.now (members chosen.now) table.old }
+    ensures { MatchBool result (IsRefutedBy (stock present.now) (members chosen.now)) (IsClosed present.now (members chosen.now) table.new) }
 {
     loop {
-        match pass(present, table) {
+        match pass(present, chosen, table) {
             Step::Quiet => return false,
             Step::Grew => {}
             Step::Clash => return true,
@@ -39,13 +41,13 @@ pub fn close(present: &Present, table: &mut [Option<Held>]) -> bool
 }
 
 /// Goes over the components, up to the first from which something is learnt.
-fn pass(present: &Present, table: &mut [Option<Held>]) -> Step
+fn pass(present: &Present, chosen: &Environment, table: &mut [Option<Held>]) -> Step
     requires closable { IsClosable present.now }
-    requires sound { IsSound present.now table.old }
-    ensures { Tells present.now (IsSettled present.now table.old) table.old table.new result }
+    requires sound { IsSound present.now (members chosen.now) table.old }
+    ensures { Tells present.now (members chosen.now) (IsSettled present.now (members chosen.now) table.old) table.old table.new result }
 {
     for place in 0..present.parts() {
-        let step = take_part(present, place, table);
+        let step = take_part(present, chosen, place, table);
         let Step::Quiet = step else {
             return step;
         };
@@ -53,13 +55,22 @@ fn pass(present: &Present, table: &mut [Option<Held>]) -> Step
     Step::Quiet
 }
 
-/// Goes over the instances of a component, up to the first from which something is learnt.
-fn take_part(present: &Present, place: u16, table: &mut [Option<Held>]) -> Step
+/// Goes over the instances of a component, if it is one of the environment, up to the first from which something is
+/// learnt.
+fn take_part(
+    present: &Present,
+    chosen: &Environment,
+    place: u16,
+    table: &mut [Option<Held>],
+) -> Step
     requires closable { IsClosable present.now }
     requires place { place < length present.now.parts }
-    requires sound { IsSound present.now table.old }
-    ensures { Tells present.now (IsSettledPlace present.now table.old place) table.old table.new result }
+    requires sound { IsSound present.now (members chosen.now) table.old }
+    ensures { Tells present.now (members chosen.now) (IsSettledIn present.now (members chosen.now) table.old place) table.old table.new result }
 {
+    if !chosen.has_part(place) {
+        return Step::Quiet;
+    }
     let part = &present.part_at(place).part;
     for index in 0..part.len() {
         let step = take_instance(place, part.at(index), table);

@@ -1,7 +1,11 @@
 // Sets of components and measured cells.
 
-use crate::flags::{add_all, is_set};
-use circuit_model::Cell;
+ghost use Rattle.std.specs.Prelude.{◌≡◌, ℕ, ◌||◌, false, length, is_some, slice_index_or};
+ghost use Rattle.circuit_model.specs.Kinds.{cell_at};
+ghost use Rattle.circuit_model.specs.Present.{MOST_NETS, reading_in};
+
+use crate::flags::{add_all, is_set, is_within, set_first};
+use circuit_model::{Cell, Present};
 
 /// Some of the components and the measured cells of a present with one cycle: components by their places, cells by
 /// their nets.
@@ -12,16 +16,19 @@ pub struct Environment {
 }
 
 impl Environment {
-    ghost use Rattle.std.specs.Prelude.{◌≡◌, ◌<◌};
+    ghost use Rattle.std.specs.Prelude.{◌≡◌, ◌<◌, ◌↔◌, IsTrue};
+    ghost use Rattle.environment_sets.specs.Sets.{◌⊆◌};
     ghost use Rattle.circuit_model.specs.Diagnoses.{AtPart, AtCell};
     ghost use Rattle.circuit_model.specs.Closure.{fact};
     ghost use Rattle.circuit_model.specs.Kinds.{cell_at};
     ghost use Rattle.circuit_model.specs.Present.{MOST_PARTS, MOST_NETS};
+    ghost use Rattle.circuit_model.specs.Whole.{everything};
+    ghost use Rattle.present_closure.specs.Everything.{IsPartsOf, IsWithParts, IsWithReadings};
     ghost use Rattle.present_closure.specs.Finding.{members};
     ghost use Rattle.present_closure.specs.Sets.{IsEmpty, IsWith, IsUnion};
 
     /// Nothing.
-    pub(crate) fn empty() -> Environment
+    pub fn empty() -> Environment
         ensures { IsEmpty (members result) }
     {
         Environment {
@@ -30,8 +37,46 @@ impl Environment {
         }
     }
 
+    /// All components and all measured cells of a present of one cycle.
+    pub fn everything_of(present: &Present) -> Environment
+        requires { present.now.cycles ≡ 1 }
+        ensures { members result ≡ everything present.now }
+    {
+        Environment::empty()
+            .with_parts_of(present)
+            .with_readings_of(present)
+    }
+
+    /// The same with all components of the present.
+    pub fn with_parts_of(mut self, present: &Present) -> Environment
+        ensures { IsWithParts present.now (members self) (members result) }
+    {
+        set_first(&mut self.parts, present.parts());
+        self
+    }
+
+    /// The same with all measured cells of a present of one cycle.
+    pub fn with_readings_of(mut self, present: &Present) -> Environment
+        requires { present.now.cycles ≡ 1 }
+        ensures { IsWithReadings present.now (members self) (members result) }
+    {
+        let _cycles = present.cycles();
+        set_measured(present, &mut self.nets);
+        self
+    }
+
+    /// Its components alone.
+    pub fn parts_alone(&self) -> Environment
+        ensures { IsPartsOf (members self.now) (members result) }
+    {
+        Environment {
+            parts: self.parts,
+            nets: [false; 256],
+        }
+    }
+
     /// The same with a component.
-    pub(crate) fn with_part(mut self, place: u16) -> Environment
+    pub fn with_part(mut self, place: u16) -> Environment
         requires { place < MOST_PARTS }
         ensures { IsWith (members self) (AtPart place) (members result) }
     {
@@ -40,7 +85,7 @@ impl Environment {
     }
 
     /// The same with the measured cell of a net.
-    pub(crate) fn with_net(mut self, net: u16) -> Environment
+    pub fn with_net(mut self, net: u16) -> Environment
         requires { net < MOST_NETS }
         ensures { IsWith (members self) (AtCell (cell_at 0 net)) (members result) }
     {
@@ -57,6 +102,13 @@ impl Environment {
         self
     }
 
+    /// Whether the other has what it has.
+    pub fn is_subset(&self, other: &Environment) -> bool
+        ensures { IsTrue result ↔ (members self.now ⊆ members other.now) }
+    {
+        is_within(&self.parts, &other.parts) && is_within(&self.nets, &other.nets)
+    }
+
     /// Whether it has the component at the place.
     pub fn has_part(&self, place: u16) -> bool
         ensures { result ≡ members self.now (AtPart place) }
@@ -69,5 +121,17 @@ impl Environment {
         ensures { result ≡ members self.now (AtCell cell) }
     {
         cell.cycle == 0 && is_set(&self.nets, cell.net)
+    }
+}
+
+/// Sets the places of measured nets.
+fn set_measured(present: &Present, nets: &mut [bool])
+    requires { length nets.old ≡ MOST_NETS }
+    ensures { (k : ℕ) → slice_index_or nets.new k false ≡ (slice_index_or nets.old k false || is_some (reading_in present.now.readings (cell_at 0 k))) }
+{
+    for net in 0..present.nets() {
+        if present.reading_at(Cell { net, cycle: 0 }).is_some() {
+            nets[net as usize] = true;
+        }
     }
 }

@@ -1,0 +1,4 @@
+pub mod Doubling
+pub mod KeptLists
+pub mod Loops
+pub mod Positions

@@ -1,0 +1,58 @@
+-- Lists of sets of assumptions.
+use Rattle.std.specs.Prelude.{◌≡◌, ◌⊎◌, ◌||◌, ◌==◌, ℕ, ◌<◌, Bool, false, IsTrue, is_some, List, [], ◌∷◌, map, length}
+use Rattle.environment_sets.specs.Sets.{Set}
+use Rattle.circuit_model.specs.Kinds.{cell_at}
+use Rattle.circuit_model.specs.Diagnoses.{Place, AtPart, AtCell}
+use Rattle.circuit_model.specs.Present.{Setup, MOST_PARTS, MOST_NETS, is_cell, reading_in}
+use Rattle.present_closure.specs.declared.environment.Environment.{Environment}
+use Rattle.present_closure.specs.Finding.{members}
+use Rattle.plain_answers.specs.declared.subsets.Named.{Named}
+use Rattle.plain_answers.specs.declared.subsets.Named.TheVariants as named
+
+abbrev pub sets : List Environment → List (Set Place)
+sets es = map members es
+
+-- each name is such a one
+abbrev pub IsWithin : (Place → Type 0) → Set Place → Type 0
+IsWithin U E = (k : Place) → IsTrue (E k) → U k
+
+-- one of the first n components
+abbrev pub IsPart : ℕ → Place → Type 0
+IsPart n (AtPart place) = place < n
+IsPart n (AtCell c) = ⊥
+
+-- a component, or the measured cell of one of the first n nets
+abbrev pub IsPartOrCell : Setup → ℕ → Place → Type 0
+IsPartOrCell s n (AtPart place) = place < length s.parts
+IsPartOrCell s n (AtCell c) = (c.cycle ≡ 0) × (c.net < n) × IsTrue (is_some (reading_in s.readings (cell_at 0 c.net)))
+
+abbrev pub place_of : Named → Place
+place_of (named.Part place) = AtPart place
+place_of (named.Net net) = AtCell (cell_at 0 net)
+
+abbrev pub IsNamed : Named → Type 0
+IsNamed (named.Part place) = place < MOST_PARTS
+IsNamed (named.Net net) = net < MOST_NETS
+
+abbrev pub is_same : Place → Place → Bool
+is_same (AtPart k) (AtPart n) = k == n
+is_same (AtCell c) (AtCell d) = is_cell c d
+is_same _ _ = false
+
+-- the set with the name
+abbrev pub adding : Place → Set Place → Set Place
+adding name E = λ k. E k || is_same k name
+
+-- each set, and then the same with the name
+abbrev pub doubling : Place → List (Set Place) → List (Set Place)
+doubling name [] = []
+doubling name (E ∷ Es) = E ∷ adding name E ∷ doubling name Es
+
+abbrev pub IsDoubled : Named → List (Set Place) → List (Set Place) → Type 0
+IsDoubled name old new = new ≡ doubling (place_of name) old
+
+module _ {X : Type 0} where
+  -- the elements of which P holds, in the same order
+  abbrev pub Keeps : (X → Type 0) → List X → List X → Type 0
+  Keeps P [] ys = ys ≡ []
+  Keeps P (x ∷ xs) ys = ((zs : List X) × (ys ≡ x ∷ zs) × P x × Keeps P xs zs) ⊎ ((P x → ⊥) × Keeps P xs ys)
