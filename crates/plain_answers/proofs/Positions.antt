@@ -1,19 +1,18 @@
 -- Sets of components as sets of their positions.
-use Rattle.std.proofs.Common.{◌≡◌, ◌⊎◌, inl, inr, ℕ, ◌+◌, ◌<◌, Bool, true, false, ◌||◌, ◌&&◌, not, nat_lt, IsTrue, is_some, List, [], ◌∷◌, map, length, Option, refl, sym, ap, subst, ◌∙◌, true≢false, arith}
+use Rattle.std.proofs.Common.{◌≡◌, inl, inr, ℕ, ◌+◌, ◌<◌, Bool, true, false, ◌||◌, ◌&&◌, not, nat_lt, IsTrue, is_some, List, [], ◌∷◌, map, length, Option, refl, sym, ap, subst, ◌∙◌, true≢false, arith}
 use Rattle.std.proofs.Math.Path.{fun_ext}
 use Rattle.std.proofs.lemmas.List.{length-map}
 use Rattle.std.proofs.lemmas.Bool.{cases_lt}
 use Rattle.std.proofs.lemmas.Bool.Decides.{nat_tests}
 use Rattle.environment_sets.specs.Sets.{Set, ◌⊆◌, IsBelow, IsMinimal, others}
-use Rattle.environment_sets.specs.Lists.{IsIn, IsRising, AreDistinct, IsRoster}
+use Rattle.environment_sets.specs.Lists.{IsIn, AreDistinct, IsRoster}
 use Rattle.circuit_model.specs.declared.model.Cell.{Cell}
-use Rattle.circuit_model.specs.declared.model.Instance.{Instance}
 use Rattle.circuit_model.specs.declared.model.Assumption.{Assumption}
 use Rattle.circuit_model.specs.declared.model.Assumption.TheVariants.{Reading}
 use Rattle.circuit_model.specs.Whole.{stock}
 use Rattle.circuit_model.specs.declared.present.Component.{Component}
 use Rattle.circuit_model.specs.Closure.{fact}
-use Rattle.circuit_model.specs.Diagnoses.{Circuit, Place, AtPart, AtCell, with_readings, AreRefuted, IsConflict, IsDiagnosis}
+use Rattle.circuit_model.specs.Diagnoses.{Place, AtPart, AtCell, with_readings, AreRefuted, IsConflict, IsDiagnosis}
 use Rattle.circuit_model.specs.Present.{Setup, reading_in, circuit_of}
 use Rattle.present_closure.specs.declared.environment.Environment.{Environment}
 use Rattle.present_closure.specs.Everything.{IsPartsOf, IsWithReadings}

@@ -1,15 +1,13 @@
 -- Environments of everything, and the facts of a closed table.
-use Rattle.std.proofs.Common.{◌≡◌, ◌↔◌, ℕ, zero, suc, [], ◌∷◌, ◌<◌, ◌≤◌, ◌||◌, ◌&&◌, ◌==◌, if◌then◌else◌, nat_lt, Bool, true, false, inl, inr, IsTrue, List, length, map, Option, Some, None, is_some, slice_get, slice_index_or, refl, sym, ap, ap₂, subst, ◌∙◌, true≢false, arith}
+use Rattle.std.proofs.Common.{◌≡◌, ℕ, zero, suc, [], ◌∷◌, ◌||◌, ◌==◌, if◌then◌else◌, nat_lt, Bool, true, false, inl, inr, IsTrue, List, length, map, Option, Some, None, is_some, slice_get, slice_index_or, refl, sym, ap, subst, ◌∙◌, true≢false, arith}
 use Rattle.std.specs.Option.{option_map}
 use Rattle.std.proofs.Math.Path.{fun_ext}
 use Rattle.std.proofs.lemmas.Bool.{cases_lt}
 use Rattle.std.proofs.lemmas.Bool.Decides.{nat_tests}
-use Rattle.std.proofs.lemmas.Option.{slice_get_past, slice_get-get_or, slice_get-map}
+use Rattle.std.proofs.lemmas.Option.{slice_get-map}
 use Rattle.environment_sets.specs.Sets.{Set, ◌⊆◌}
 use Rattle.circuit_model.specs.declared.model.Cell.{Cell}
-use Rattle.circuit_model.specs.declared.model.Fact.{Fact}
 use Rattle.circuit_model.specs.declared.model.Instance.{Instance}
-use Rattle.circuit_model.specs.declared.model.Assumption.{Assumption}
 use Rattle.circuit_model.specs.declared.model.Assumption.TheVariants.{Part, Reading}
 use Rattle.circuit_model.specs.declared.present.Component.{Component}
 use Rattle.circuit_model.specs.Closure.{fact}
@@ -25,7 +23,7 @@ use Rattle.present_closure.specs.declared.finding.Finding.TheVariants as finding
 use Rattle.present_closure.specs.declared.finding.Closed.{Closed}
 use Rattle.present_closure.specs.declared.finding.Closed.TheVariants as closed
 use Rattle.present_closure.specs.declared.table.Held.{Held}
-use Rattle.present_closure.specs.Closing.{Table, held_at, word_at, value_of, IsBacked, IsClosed}
+use Rattle.present_closure.specs.Closing.{Table, held_at, value_of, IsBacked, IsClosed}
 use Rattle.present_closure.specs.Everything.{IsWithParts, IsWithReadings}
 use Rattle.present_closure.specs.Facts.{held_in, word_in, AreFacts, IsFoundIn, Closes}
 use Rattle.present_closure.specs.Finding.{members, Finds}

@@ -16,9 +16,7 @@ use Rattle.circuit_model.specs.Present.{Setup, reading_in, IsFactOf}
 use Rattle.circuit_model.specs.Whole.{stock}
 use Rattle.circuit_model.proofs.Rounds as rounds
 use Rattle.circuit_model.proofs.Rounds.{Follows-within, Clashes-within}
-use Rattle.present_closure.specs.declared.table.Held.{Held}
-use Rattle.present_closure.specs.Finding.{members, IsValue, IsSilent}
-use Rattle.present_closure.specs.Closing.{Table, held_at, word_at, value_of, IsIn, IsBacked, HasReadings, IsClosable, IsSettled, IsSettledAt, IsClosed}
+use Rattle.present_closure.specs.Closing.{Table, word_at, IsIn, HasReadings, IsClosable, IsSettled, IsSettledAt}
 use Rattle.present_closure.proofs.Measured.{measured_fact}
 
 not_part : (o : Option ℕ) (c : Cell) (part : List Instance) → option_map (λ v. Reading (fact c v)) o ≡ Some (Part part) → ⊥

@@ -3,7 +3,6 @@ use Rattle.std.specs.Prelude.{◌≡◌, ◌↔◌, ◌==◌, if◌then◌else�
 use Rattle.std.specs.Option.{option_map}
 use Rattle.environment_sets.specs.Sets.{Set, ◌⊆◌}
 use Rattle.circuit_model.specs.declared.model.Cell.{Cell}
-use Rattle.circuit_model.specs.declared.model.Fact.{Fact}
 use Rattle.circuit_model.specs.Closure.{fact}
 use Rattle.circuit_model.specs.Stock.{Has, IsRefutedBy}
 use Rattle.circuit_model.specs.Diagnoses.{Place}

@@ -1,11 +1,9 @@
-use Rattle.std.proofs.Common.{◌≡◌, List, sym, subst}
-use Rattle.environment_sets.specs.Sets.{Set}
-use Rattle.environment_sets.specs.Lists.{IsRoster}
-use Rattle.circuit_model.specs.Diagnoses.{Place, AreRefuted, IsConflict}
+use Rattle.std.proofs.Common.{List, subst}
+use Rattle.circuit_model.specs.Diagnoses.{AreRefuted}
 use Rattle.circuit_model.specs.Present.{circuit_of}
 use Rattle.present_closure.specs.declared.environment.Environment.{Environment}
 use Rattle.plain_answers.specs.Subsets.{sets, Keeps}
-use Rattle.plain_answers.specs.Tests.{IsLeastIn, IsRepaired, positions}
+use Rattle.plain_answers.specs.Tests.{IsLeastIn, positions}
 use Rattle.plain_answers.proofs.Loops.{IfOk-more}
 use Rattle.plain_answers.proofs.Positions.{conflicts_listed, positions_of_sets}
 use Rattle.plain_answers.proofs.answers.conflicts.Goals as goal

@@ -1,8 +1,4 @@
-use Rattle.std.proofs.Common.{◌≡◌, List, sym, subst}
-use Rattle.environment_sets.specs.Sets.{Set}
-use Rattle.environment_sets.specs.Lists.{IsRoster}
-use Rattle.circuit_model.specs.Diagnoses.{Place, AreRefuted, IsDiagnosis}
-use Rattle.circuit_model.specs.Present.{circuit_of}
+use Rattle.std.proofs.Common.{List, subst}
 use Rattle.present_closure.specs.declared.environment.Environment.{Environment}
 use Rattle.plain_answers.specs.Subsets.{sets, Keeps}
 use Rattle.plain_answers.specs.Tests.{IsLeastIn, IsRepaired, positions}
