@@ -1,5 +1,5 @@
 // Sets of environments, none of which contains another.
-ghost use Rattle.std.specs.Prelude.{◌≡◌, ◌<◌, ◌↔◌, IsTrue, IfOk, OnErr, IfSome, Some, Ok, [], length};
+ghost use Rattle.std.specs.Prelude.{◌≡◌, ◌<◌, ◌↔◌, IsTrue, OnErr, IfSome, Some, Ok, [], length};
 ghost use Rattle.std.specs.Option.{ForSome, option_map, option_copied};
 ghost use Rattle.environment_sets.specs.Sets.{◌⊆◌};
 ghost use Rattle.environment_sets.specs.Members.{members, sets, HasMember};
@@ -76,6 +76,13 @@ impl Antichain {
         }
     }
 
+    /// The members, in no order that is told.
+    pub fn members(&self) -> &[Env]
+        ensures { result.now ≡ self.now }
+    {
+        &self.list
+    }
+
     /// Whether a member is a subset of the environment.
     pub fn covers(&self, env: &Env) -> bool
         ensures covered { IsTrue result ↔ Covers (HasMember self.now) (members env.now) }
@@ -118,16 +125,6 @@ impl Antichain {
             }
         }
         next
-    }
-
-    /// The same members. It is the one call besides `insert` that takes memory.
-    pub fn copy(&self, alloc: Global) -> Result<Antichain, OutOfMemory>
-        ensures { IfOk result (λ copy. copy ≡ self.now) }
-    {
-        match Vec::from_slice(alloc, &self.list) {
-            Ok(list) => Ok(Antichain { list }),
-            Err(_) => Err(OutOfMemory),
-        }
     }
 }
 

@@ -8,3 +8,7 @@ pub mod Causes
 pub mod Nets
 pub mod Putting
 pub mod Joining
+pub mod Listing
+pub mod Asking
+pub mod LabelLines
+pub mod Remembered

@@ -5,9 +5,9 @@ use Rattle.std.proofs.Math.Seq.{take-append_seam, drop-append_seam}
 use Rattle.bench_io.specs.Lines.{MOST_BYTES, HasNoNewline, lines_of, whole_lines_of, session_lines}
 use Rattle.bench_io.specs.Reading.{Reading, lines_ahead}
 use Rattle.bench_io.proofs.Bytes.{Consumes-then, Consumes-nothing, Appends-then}
-use Rattle.bench_cli.specs.Replies.{Exchange, text_of, transcript, lines_of_exchanges, has_refused, has_no_memory, is_refused, is_no_memory}
+use Rattle.bench_cli.specs.Replies.{Exchange, Reply, text_of, transcript, lines_of_exchanges, has_refused, has_no_memory, is_refused, is_no_memory}
 use Rattle.bench_cli.specs.State.{State, empty}
-use Rattle.bench_cli.specs.Answers.{reply_of}
+use Rattle.bench_cli.specs.Answers.{IsReply}
 use Rattle.bench_cli.specs.Turns.{Steps, ReadSofar, Cuts, ending_of, tally_after}
 use Rattle.bench_cli.specs.Session.{ReadsAll, ReadsTo, ReadsMost, ReadsSome, WhereTold, AnswersAll, Outcome, WritesPart}
 use Rattle.bench_cli.specs.Statuses.{status_by}
@@ -33,19 +33,19 @@ some_bytes : (t : List ℕ) → t ≢ [] → 0 < length t
 some_bytes [] ne = absurd (ne refl)
 some_bytes (b ∷ t) ne = omega arith
 
-stepped-by : (es : List Exchange) (l₀ l₁ l₂ : Option (List ℕ)) (f₀ f₁ f₂ : ℕ) (r r' : Reading) (s s' : State) (answer : Answer)
-    (p : ReadSofar es l₀ l₁ f₀ f₁ r s) (q : Steps r r' s s' l₁ l₂ f₁ f₂ (Ok answer))
+stepped-by : (es : List Exchange) (l₀ l₁ l₂ : Option (List ℕ)) (f₀ f₁ f₂ : ℕ) (r r' : Reading) (s s' : State) (answer : Answer) (reply : Reply)
+    (p : ReadSofar es l₀ l₁ f₀ f₁ r s) (q : Steps r r' s s' l₁ l₂ f₁ f₂ (Ok answer)) → IsReply s' answer reply
     → ((r.held ++ q.read ≡ q.answer.1.line ++ 10 ∷ r'.held) × (r'.has_ended ≡ false))
     ⊎ ((r.held ++ q.read ≡ q.answer.1.line) × (q.answer.1.line ≢ []) × (r'.held ≡ []) × (r'.has_ended ≡ true) × IsAtEnd l₂)
-    → (n : ReadSofar (es ++ record { line = q.answer.1.line; reply = reply_of s' answer } ∷ []) l₀ l₂ f₀ f₂ r' s') × (length p.given < length n.given)
-stepped-by es l₀ l₁ l₂ f₀ f₁ f₂ r r' s s' answer p q (inl k) =
+    → (n : ReadSofar (es ++ record { line = q.answer.1.line; reply = reply } ∷ []) l₀ l₂ f₀ f₂ r' s') × (length p.given < length n.given)
+stepped-by es l₀ l₁ l₂ f₀ f₁ f₂ r r' s s' answer reply p q is (inl k) =
     let line = q.answer.1.line in
-    let last : Exchange = record { line = line; reply = reply_of s' answer } in
+    let last : Exchange = record { line = line; reply = reply } in
     let e = parts-newline p.given r.held q.read line r'.held k.0 in
     let P : List ℕ → Type 0 = λ u. Consumes l₀ l₂ u in
     let Q : List (List ℕ) → Type 0 = λ u. Cuts (p.given ++ (line ++ 10 ∷ [])) u r'.has_ended in (
       record {
-        run = Run-more _ _ _ es last p.run q.answer.1.takes;
+        run = Run-more _ _ _ es last p.run (q.answer.1.takes reply is);
         given = p.given ++ (line ++ 10 ∷ []);
         consumed = subst P e (Consumes-then _ _ _ _ _ p.consumed q.consumed);
         cuts = subst Q (sym (lines-more es last)) (Cuts-more _ _ _ _ line p.cuts q.answer.0 k.1 q.answer.1.begins.without_newline);
@@ -57,14 +57,14 @@ stepped-by es l₀ l₁ l₂ f₀ f₁ f₂ r r' s s' answer p q (inl k) =
       },
       omega (arith, length-append p.given (line ++ 10 ∷ []), length-append line (10 ∷ [])),
     )
-stepped-by es l₀ l₁ l₂ f₀ f₁ f₂ r r' s s' answer p q (inr k) =
+stepped-by es l₀ l₁ l₂ f₀ f₁ f₂ r r' s s' answer reply p q is (inr k) =
     let line = q.answer.1.line in
-    let last : Exchange = record { line = line; reply = reply_of s' answer } in
+    let last : Exchange = record { line = line; reply = reply } in
     let e = parts-end p.given r.held q.read line r'.held k.0 k.2 in
     let P : List ℕ → Type 0 = λ u. Consumes l₀ l₂ u in
     let Q : List (List ℕ) → Type 0 = λ u. Cuts (p.given ++ line) u r'.has_ended in (
       record {
-        run = Run-more _ _ _ es last p.run q.answer.1.takes;
+        run = Run-more _ _ _ es last p.run (q.answer.1.takes reply is);
         given = p.given ++ line;
         consumed = subst P e (Consumes-then _ _ _ _ _ p.consumed q.consumed);
         cuts = subst Q (sym (lines-more es last)) (Cuts-last _ _ _ _ line p.cuts q.answer.0 k.3 q.answer.1.begins.without_newline k.1);
@@ -78,10 +78,10 @@ stepped-by es l₀ l₁ l₂ f₀ f₁ f₂ r r' s s' answer p q (inr k) =
     )
 
 -- a line was read and answered
-pub stepped : (es : List Exchange) (l₀ l₁ l₂ : Option (List ℕ)) (f₀ f₁ f₂ : ℕ) (r r' : Reading) (s s' : State) (answer : Answer)
-    (p : ReadSofar es l₀ l₁ f₀ f₁ r s) (q : Steps r r' s s' l₁ l₂ f₁ f₂ (Ok answer))
-    → (n : ReadSofar (es ++ record { line = q.answer.1.line; reply = reply_of s' answer } ∷ []) l₀ l₂ f₀ f₂ r' s') × (length p.given < length n.given)
-stepped es l₀ l₁ l₂ f₀ f₁ f₂ r r' s s' answer p q = stepped-by es l₀ l₁ l₂ f₀ f₁ f₂ r r' s s' answer p q q.answer.1.begins.cut
+pub stepped : (es : List Exchange) (l₀ l₁ l₂ : Option (List ℕ)) (f₀ f₁ f₂ : ℕ) (r r' : Reading) (s s' : State) (answer : Answer) (reply : Reply)
+    (p : ReadSofar es l₀ l₁ f₀ f₁ r s) (q : Steps r r' s s' l₁ l₂ f₁ f₂ (Ok answer)) → IsReply s' answer reply
+    → (n : ReadSofar (es ++ record { line = q.answer.1.line; reply = reply } ∷ []) l₀ l₂ f₀ f₂ r' s') × (length p.given < length n.given)
+stepped es l₀ l₁ l₂ f₀ f₁ f₂ r r' s s' answer reply p q is = stepped-by es l₀ l₁ l₂ f₀ f₁ f₂ r r' s s' answer reply p q is q.answer.1.begins.cut
 
 -- the measure falls with each line
 pub ahead_falls : (es es' : List Exchange) (l₀ l₁ l₂ : Option (List ℕ)) (f₀ f₁ f₂ : ℕ) (r r' : Reading) (s s' : State)

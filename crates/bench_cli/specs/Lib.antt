@@ -6,6 +6,7 @@ pub mod Reading
 pub mod Replies
 pub mod Answers
 pub mod Texts
+pub mod Labels
 pub mod State
 pub mod Serving
 pub mod Session

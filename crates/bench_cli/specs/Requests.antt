@@ -1,7 +1,8 @@
 -- What a line asks, by its words.
-use Rattle.std.specs.Prelude.{◌≡◌, ℕ, List, [], ◌∷◌, codes, IsTrue, Option, Some, None}
-use Rattle.std.specs.List.{All}
+use Rattle.std.specs.Prelude.{◌≡◌, ℕ, List, [], ◌∷◌, codes, IsTrue, Option, Some, None, if◌then◌else◌}
+use Rattle.std.specs.Str.{bytes_eq}
 use Rattle.circuit_model.specs.Names.{is_name}
+use Rattle.circuit_model.specs.declared.model.Kind.{Kind}
 use Rattle.circuit_model.specs.declared.model.Kind.TheVariants as kinds
 use Rattle.bench_cli.specs.Grammar.{IsNumber, IsSilent}
 use Rattle.bench_cli.specs.declared.requests.Change.TheVariants.{Net, Add, Measure}
@@ -24,10 +25,53 @@ abbrev pub AreNetWords : List (List ℕ) → List ℕ → ℕ → Type 0
 AreNetWords (word ∷ bits ∷ []) name width = IsNamed word name × IsNumber bits width
 AreNetWords words name width = ⊥
 
+-- the kind of the command word, for the kinds without a value
+unfoldable pub kind_named : List ℕ → Option Kind
+kind_named word =
+    if bytes_eq word (codes "buf") then Some kinds.Buf else
+    if bytes_eq word (codes "not") then Some kinds.Not else
+    if bytes_eq word (codes "and") then Some kinds.And else
+    if bytes_eq word (codes "or") then Some kinds.Or else
+    if bytes_eq word (codes "xor") then Some kinds.Xor else
+    if bytes_eq word (codes "nand") then Some kinds.Nand else
+    if bytes_eq word (codes "nor") then Some kinds.Nor else
+    if bytes_eq word (codes "xnor") then Some kinds.Xnor else
+    if bytes_eq word (codes "add") then Some kinds.Add else
+    if bytes_eq word (codes "mul") then Some kinds.Mul else
+    None
+
+-- each of the words is a name
+abbrev pub AreNames : List (List ℕ) → Type 0
+AreNames [] = Unit {0}
+AreNames (word ∷ words) = IsTrue (is_name word) × AreNames words
+
+-- after the word of a kind with two ports: the name, and the names of the nets, of which the last stands twice
+abbrev pub AreTwoPortWords : List (List ℕ) → List ℕ → List (List ℕ) → Type 0
+AreTwoPortWords (word ∷ a ∷ z ∷ []) name nets = IsNamed word name × AreNames (a ∷ z ∷ []) × (nets ≡ a ∷ z ∷ z ∷ [])
+AreTwoPortWords words name nets = ⊥
+
 -- after the word of a kind with three ports: the name, and the names of the nets
-abbrev pub ArePartWords : List (List ℕ) → List ℕ → List (List ℕ) → Type 0
-ArePartWords (word ∷ a ∷ b ∷ z ∷ []) name nets = IsNamed word name × All (λ net. IsTrue (is_name net)) nets × (nets ≡ a ∷ b ∷ z ∷ [])
-ArePartWords words name nets = ⊥
+abbrev pub AreThreePortWords : List (List ℕ) → List ℕ → List (List ℕ) → Type 0
+AreThreePortWords (word ∷ a ∷ b ∷ z ∷ []) name nets = IsNamed word name × AreNames (a ∷ b ∷ z ∷ []) × (nets ≡ a ∷ b ∷ z ∷ [])
+AreThreePortWords words name nets = ⊥
+
+-- after the word of a kind without a value: the name, and the names of the nets of its ports
+abbrev pub ArePortWords : Kind → List (List ℕ) → List ℕ → List (List ℕ) → Type 0
+ArePortWords kinds.Buf words name nets = AreTwoPortWords words name nets
+ArePortWords kinds.Not words name nets = AreTwoPortWords words name nets
+ArePortWords (kinds.Const value) words name nets = ⊥
+ArePortWords (kinds.Reg reset) words name nets = ⊥
+ArePortWords kind words name nets = AreThreePortWords words name nets
+
+-- after `const`: the name, the name of the net, which stands three times, and the value
+abbrev pub AreConstantWords : List (List ℕ) → List ℕ → List (List ℕ) → ℕ → Type 0
+AreConstantWords (word ∷ z ∷ digits ∷ []) name nets value = IsNamed word name × AreNames (z ∷ []) × (nets ≡ z ∷ z ∷ z ∷ []) × IsNumber digits value
+AreConstantWords words name nets value = ⊥
+
+-- The command word and the words after it ask for a component of this name and kind at the nets with these names.
+abbrev pub AsksPart : List ℕ → List (List ℕ) → List ℕ → Kind → List (List ℕ) → Type 0
+AsksPart command words name (kinds.Const value) nets = (command ≡ codes "const") × AreConstantWords words name nets value
+AsksPart command words name kind nets = (kind_named command ≡ Some kind) × ArePortWords kind words name nets
 
 -- after `measure`: the cell and the value
 abbrev pub AreMeasureWords : List (List ℕ) → List ℕ → ℕ → ℕ → Type 0
@@ -43,7 +87,7 @@ AreLabelWords words net cycle = ⊥
 abbrev pub Asks : List (List ℕ) → Request → Type 0
 Asks words Nothing = IsSilent words
 Asks (command ∷ words) (Change (Net name width)) = (command ≡ codes "net") × AreNetWords words name width
-Asks (command ∷ words) (Change (Add name kind nets)) = (command ≡ codes "add") × (kind ≡ kinds.Add) × ArePartWords words name nets
+Asks (command ∷ words) (Change (Add name kind nets)) = AsksPart command words name kind nets
 Asks (command ∷ words) (Change (Measure net cycle value)) = (command ≡ codes "measure") × AreMeasureWords words net cycle value
 Asks (command ∷ words) (Query (Label net cycle)) = (command ≡ codes "label") × AreLabelWords words net cycle
 Asks [] request = ⊥

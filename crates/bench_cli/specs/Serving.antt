@@ -6,14 +6,14 @@ use Rattle.circuit_model.specs.Kinds.{RepeatsLast, instances}
 use Rattle.circuit_model.specs.declared.model.Kind.{Kind}
 use Rattle.circuit_model.specs.declared.present.Component.{Component}
 use Rattle.bench_cli.specs.Replies.{Reply, Told, Refused, NoMemory}
-use Rattle.bench_cli.specs.State.{State, places_of, checks_of, some_applies, after, is_barred, wants_memory, Does, checks_of_query, IsAnswer}
-use Rattle.bench_cli.specs.Answers.{finding_text}
+use Rattle.bench_cli.specs.State.{State, places_of, checks_of, some_applies, after, is_barred, wants_memory, Does, checks_of_query, cell_of}
 use Rattle.bench_cli.specs.declared.replies.Answer.{Answer}
 use Rattle.bench_cli.specs.declared.replies.Answer.TheVariants as answer
 use Rattle.bench_cli.specs.declared.replies.Refusal.TheVariants.{NotBuilt}
 use Rattle.bench_cli.specs.declared.requests.Change.{Change}
 use Rattle.bench_cli.specs.declared.requests.Change.TheVariants.{Add}
 use Rattle.bench_cli.specs.declared.requests.Query.{Query}
+use Rattle.bench_cli.specs.declared.requests.Query.TheVariants.{Label}
 use Rattle.bench_cli.specs.declared.requests.Request.{Request}
 use Rattle.bench_cli.specs.declared.requests.Request.TheVariants as request
 
@@ -55,9 +55,8 @@ Serves old request NoMemory new = (is_barred old request ≡ false) × (wants_me
 Serves old request (Refused NotBuilt) new = (is_barred old request ≡ true) × (new ≡ old)
 Serves old request (Told text) new = (is_barred old request ≡ false) × Does old request (Told text) new
 
--- A check applies to a question; or none does, and then it is answered or finds no memory.
+-- A check applies to a question, or none does, and then it is answered. It takes no memory.
 abbrev pub Asked : Setup → Query → Answer → Type 0
-Asked s query (answer.Label cell found) = (some_applies (checks_of_query s query) ≡ false) × IsAnswer s query (finding_text s cell found)
+Asked s (Label net cycle) (answer.Label cell) = (some_applies (checks_of_query s (Label net cycle)) ≡ false) × (cell ≡ cell_of s net cycle)
 Asked s query (answer.Refused refusal) = some_applies (checks_of_query s query) ≡ true
-Asked s query answer.NoMemory = some_applies (checks_of_query s query) ≡ false
 Asked s query answer = ⊥

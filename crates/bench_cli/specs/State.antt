@@ -1,20 +1,17 @@
 -- The state of a session, and its step.
 use Rattle.std.specs.Prelude.{◌≡◌, ℕ, ◌+◌, ◌*◌, ◌^◌, nat_lt, nat_le, Bool, true, false, not, ◌&&◌, is_some, unwrap_or, List, [], ◌∷◌, ◌++◌, codes, length, map}
 use Rattle.std.specs.List.{list_all, list_any}
-use Rattle.environment_sets.specs.Sets.{Set}
 use Rattle.circuit_model.specs.declared.model.Cell.{Cell}
 use Rattle.circuit_model.specs.declared.model.Kind.{Kind}
 use Rattle.circuit_model.specs.declared.present.Component.{Component}
 use Rattle.circuit_model.specs.Kinds.{cell_at, are_widths, fits_value, instances}
 use Rattle.circuit_model.specs.Closure.{fact}
-use Rattle.circuit_model.specs.Stock.{IsEnvironment, Has, IsRefutedBy}
-use Rattle.circuit_model.specs.Diagnoses.{Place}
 use Rattle.circuit_model.specs.Present.{Setup, MOST_NETS, MOST_CELLS, MOST_PARTS, MOST_READINGS, net_named, named_in, width_of, reading_in, with_net, with_part, with_standing, empty_setup}
-use Rattle.circuit_model.specs.Whole.{stock, everything}
+use Rattle.circuit_model.specs.Printed.{Labelled, IsPrintedLabel}
 use Rattle.bench_cli.specs.Grammar.{words_of, IsReadable}
 use Rattle.bench_cli.specs.Requests.{Asks}
 use Rattle.bench_cli.specs.Replies.{Reply, Told, Refused, NoMemory, Exchange}
-use Rattle.bench_cli.specs.Texts.{label_line}
+use Rattle.bench_cli.specs.Texts.{label_lines}
 use Rattle.bench_cli.specs.declared.replies.Refusal.TheVariants.{NotBuilt}
 use Rattle.bench_cli.specs.declared.requests.Change.{Change}
 use Rattle.bench_cli.specs.declared.requests.Change.TheVariants.{Net, Add, Measure}
@@ -91,12 +88,11 @@ after s (Net name width) = with_net (record { name = name; width = width }) s
 after s (Add name kind nets) = with_part (component_of s name kind nets) s
 after s (Measure net cycle value) = with_standing (fact (cell_of s net cycle) value) s
 
--- The reply on a cell. Where all components and all measurements clash, it says so. Else it has the value that follows
--- from them, if there is one, and an environment from which it follows.
-pub data Tells (s : Setup) (c : Cell) (text : List ℕ) : Type 0 where
-  clash : IsRefutedBy (stock s) (everything s) → text ≡ codes "clash\nok\n" → Tells s c text
-  value : (IsRefutedBy (stock s) (everything s) → ⊥) → (v : ℕ) (E : Set Place) → IsEnvironment (stock s) E → Has (stock s) (fact c v) E → text ≡ label_line s (fact c v) E ++ codes "ok\n" → Tells s c text
-  nothing : (IsRefutedBy (stock s) (everything s) → ⊥) → ((v : ℕ) → Has (stock s) (fact c v) (everything s) → ⊥) → text ≡ codes "ok\n" → Tells s c text
+-- the text is the printed label of the cell, a line for each word and environment, and `ok`
+pub record Tells (s : Setup) (c : Cell) (text : List ℕ) : Type 0 where
+  pub label : List Labelled
+  pub exact : IsPrintedLabel s c label
+  pub lines : text ≡ label_lines s c label ++ codes "ok\n"
 
 -- the text is the answer to the question
 abbrev pub IsAnswer : Setup → Query → List ℕ → Type 0
@@ -119,7 +115,7 @@ pub data Step (old : State) (line : List ℕ) (reply : Reply) (new : State) : Ty
 abbrev pub wants_memory : Request → Bool
 wants_memory request.Nothing = false
 wants_memory (request.Change change) = true
-wants_memory (request.Query query) = true
+wants_memory (request.Query query) = false
 
 -- The line may find no memory: it asks what may want it, and no check applies.
 pub record MayWant (old : State) (line : List ℕ) : Type 0 where

@@ -8,7 +8,9 @@ use Rattle.circuit_model.specs.declared.model.Fact.{Fact}
 use Rattle.circuit_model.specs.declared.present.Component.{Component}
 use Rattle.circuit_model.specs.declared.present.Net.{Net}
 use Rattle.circuit_model.specs.Present.{Setup}
+use Rattle.circuit_model.specs.Closure.{fact}
 use Rattle.circuit_model.specs.Diagnoses.{Place, AtPart, AtCell}
+use Rattle.circuit_model.specs.Printed.{Labelled}
 
 -- the name of the net at the place
 abbrev pub name_at : List Net → ℕ → List ℕ
@@ -38,3 +40,8 @@ environment_text s E = codes "{" ++ join_with_byte 44 (part_names_in E 0 s.parts
 -- a fact, a space and an environment
 abbrev pub label_line : Setup → Fact → Set Place → List ℕ
 label_line s f E = fact_text s f ++ codes " " ++ environment_text s E ++ codes "\n"
+
+-- a line for each word and environment
+abbrev pub label_lines : Setup → Cell → List Labelled → List ℕ
+label_lines s c [] = []
+label_lines s c (l ∷ ls) = label_line s (fact c l.word) l.environment ++ label_lines s c ls

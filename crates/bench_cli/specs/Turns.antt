@@ -4,7 +4,7 @@ use Rattle.std.specs.Io.KnownBytes.{Appends, Consumes, IsAtEnd}
 use Rattle.bench_io.specs.Causes.{Rose}
 use Rattle.bench_io.specs.Lines.{MOST_BYTES, HasNoNewline, lines_of, whole_lines_of}
 use Rattle.bench_io.specs.Reading.{Reading, Begins}
-use Rattle.bench_cli.specs.Answers.{reply_of, IsWritable}
+use Rattle.bench_cli.specs.Answers.{IsReply, IsWritable}
 use Rattle.bench_cli.specs.Replies.{Exchange, Reply, is_refused, is_no_memory, lines_of_exchanges, has_refused, has_no_memory, transcript}
 use Rattle.bench_cli.specs.State.{State, Takes, Run, empty}
 use Rattle.bench_cli.specs.Statuses.{status_by}
@@ -27,16 +27,16 @@ ending_of stop.End t = status_of t
 ending_of stop.Failed t = ReadFault
 ending_of stop.TooMuch t = TooMuch
 
--- A line was read and answered. The bytes are those that were held or taken.
-pub record Answered (bytes : List ℕ) (reader : Reading) (before now : State) (left : Option (List ℕ)) (reply : Reply) : Type 0 where
+-- A line was read and answered, by each reply that the answer stands for. The bytes are those that were held or taken.
+pub record Answered (bytes : List ℕ) (reader : Reading) (before now : State) (left : Option (List ℕ)) (answer : Answer) : Type 0 where
   pub line : List ℕ
   pub begins : Begins bytes line left reader
-  pub takes : Takes before line reply now
+  pub takes : (reply : Reply) → IsReply now answer reply → Takes before line reply now
 
 -- what each answer of a step says
 abbrev pub StepAnswers : (bytes : List ℕ) (first reader : Reading) (before now : State) (left : Option (List ℕ)) (faults_before faults_now : ℕ) → Result Answer Stop → Type 0
 StepAnswers bytes first reader before now left faults_before faults_now (Ok answer) =
-    (first.has_ended ≡ false) × Answered bytes reader before now left (reply_of now answer) × IsWritable now answer
+    (first.has_ended ≡ false) × Answered bytes reader before now left answer × IsWritable now answer
 StepAnswers bytes first reader before now left faults_before faults_now (Err stop.End) =
     (bytes ≡ []) × ((first.has_ended ≡ true) ⊎ IsAtEnd left) × (reader.taken ≤ MOST_BYTES)
 StepAnswers bytes first reader before now left faults_before faults_now (Err stop.Failed) =

@@ -1,18 +1,20 @@
 // The changes of a present, each with its checks.
-ghost use Rattle.std.specs.Prelude.{◌≡◌, ◌≤◌, ◌<◌, ◌+◌, ◌*◌, ◌^◌, IfSome, MatchOption, map, nat_le, nat_lt, not, if◌then◌else◌, is_some, true, false, length, Some, None, ◌∷◌, []};
+ghost use Rattle.std.specs.Prelude.{◌≡◌, ◌≤◌, ◌<◌, ◌+◌, ◌*◌, ◌^◌, IfOk, IfSome, MatchOption, map, nat_le, nat_lt, not, if◌then◌else◌, is_some, true, false, length, Some, None, ◌∷◌, []};
 ghost use Rattle.std.specs.List.{list_all, All};
 ghost use Rattle.circuit_model.specs.Kinds.{RepeatsLast, cell_at, are_widths, fits_value};
-ghost use Rattle.circuit_model.specs.Present.{MOST_CYCLES, MOST_CELLS, MOST_PARTS, named_in, net_named, width_of, reading_in};
+ghost use Rattle.circuit_model.specs.Present.{MOST_CYCLES, MOST_CELLS, MOST_PARTS, named_in, net_named, width_of, reading_in, IsLawfulComponent};
 ghost use Rattle.bench_cli.specs.State.{checks_of, checks_of_reading, some_applies, is_width, place_of};
 ghost use Rattle.bench_cli.specs.Serving.{IsPadded, Changes, AreNets, PlacesPart, part_of};
 ghost use Rattle.bench_cli.specs.declared.requests.Change.TheVariants as change;
 
+use crate::remembering::{remember_last, remember_reading};
 use crate::replies::{Answer, Refusal};
 use crate::requests::Change;
+use crate::state::Bench;
 use circuit_model::{
     Cell, Component, Fact, Kind, Name, Named, Present, are_widths, fits_value, instances_of, limits,
 };
-use std::alloc::Global;
+use std::alloc::{AllocError, Global};
 use word_domain::Width;
 
 fn has_name(present: &Present, name: &Name) -> bool
@@ -41,21 +43,6 @@ fn is_net_barred(present: &Present, name: &Name, width: u64) -> bool
         || !is_width(width)
         || present.nets() >= limits::MOST_NETS
         || are_cells_full(present)
-}
-
-fn add_net(present: &mut Present, name: Name, width: u64) -> Answer
-    ensures { Changes present.old (change.Net name width) result present.new }
-{
-    if is_net_barred(present, &name, width) {
-        return Answer::Refused(Refusal::NotBuilt);
-    }
-    let Some(width) = Width::new(width as u32) else {
-        unreachable!()
-    };
-    match present.add_net(name, width) {
-        Ok(()) => Answer::Accepted,
-        Err(_) => Answer::NoMemory,
-    }
 }
 
 /// The place of the net with the name.
@@ -106,23 +93,6 @@ fn is_measured(present: &Present, place: u16, cycle: u64) -> bool
     present.reading_at(cell).is_some()
 }
 
-fn measure(present: &mut Present, net: &Name, cycle: u64, value: u64) -> Answer
-    ensures { Changes present.old (change.Measure net.now cycle value) result present.new }
-{
-    let Some(place) = net_of(present, net) else {
-        return Answer::Refused(Refusal::NotBuilt);
-    };
-    if is_reading_barred(present, place, cycle, value) {
-        return Answer::Refused(Refusal::NotBuilt);
-    }
-    let cell = Cell {
-        net: place,
-        cycle: cycle as u8,
-    };
-    present.set_reading(Fact { cell, value });
-    Answer::Accepted
-}
-
 // The places of the nets with the names, where each of them is a net.
 fn nets_of(present: &Present, names: &[Name; 3]) -> Option<[u16; 3]>
     ensures { MatchOption result (list_all (λ name. is_some (net_named present.now name)) names.now ≡ false) (AreNets present.now names.now) }
@@ -160,70 +130,123 @@ fn is_part_barred(present: &Present, kind: Kind, widths: &[Width; 3]) -> bool
 }
 
 // The component of the kind at nets that are there, with widths by the kind's rule.
-fn place_part(
-    present: &mut Present,
+fn component_at(
+    present: &Present,
     alloc: Global,
     name: Name,
     kind: Kind,
     places: [u16; 3],
     widths: [Width; 3],
-) -> Answer
-    requires free { named_in present.old name ≡ None }
-    requires room { length present.old.parts < MOST_PARTS }
-    requires within { All (λ place. place < length present.old.nets) places }
+) -> Result<Component, AllocError>
+    requires within { All (λ place. place < length present.now.nets) places }
     requires unused { RepeatsLast kind places }
-    requires widths { widths ≡ map (width_of present.old) places }
+    requires widths { widths ≡ map (width_of present.now) places }
     requires rule { are_widths kind widths ≡ true }
     requires value { fits_value kind widths ≡ true }
-    ensures { PlacesPart present.old (part_of present.old name kind places) result present.new }
+    ensures part { IfOk result (λ c. c ≡ part_of present.now name kind places) }
+    ensures lawful { IfOk result (IsLawfulComponent present.now) }
 {
-    let cycles = present.cycles();
-    let Ok(part) = instances_of(alloc, kind, places, widths, cycles) else {
-        return Answer::NoMemory;
-    };
-    let component = Component {
+    let part = instances_of(alloc, kind, places, widths, present.cycles())?;
+    Ok(Component {
         name,
         kind,
         nets: places,
         part,
-    };
-    match present.add_part(component) {
-        Ok(()) => Answer::Accepted,
-        Err(_) => Answer::NoMemory,
-    }
+    })
 }
 
-fn add_part(
-    present: &mut Present,
-    alloc: Global,
-    name: &Name,
-    kind: Kind,
-    nets: &[Name; 3],
-) -> Answer
-    requires { RepeatsLast kind nets.now }
-    ensures { Changes present.old (change.Add name.now kind nets.now) result present.new }
-{
-    if has_name(present, name) {
-        return Answer::Refused(Refusal::NotBuilt);
+impl Bench {
+    fn add_net(&mut self, name: Name, width: u64) -> Answer
+        ensures { Changes self.old (change.Net name width) result self.new }
+    {
+        if is_net_barred(&self.present, &name, width) {
+            return Answer::Refused(Refusal::NotBuilt);
+        }
+        let Some(width) = Width::new(width as u32) else {
+            unreachable!()
+        };
+        match self.present.add_net(name, width) {
+            Ok(()) => Answer::Accepted,
+            Err(_) => Answer::NoMemory,
+        }
     }
-    let Some(places) = nets_of(present, nets) else {
-        return Answer::Refused(Refusal::NotBuilt);
-    };
-    let widths = widths_at(present, &places);
-    if is_part_barred(present, kind, &widths) {
-        return Answer::Refused(Refusal::NotBuilt);
-    }
-    place_part(present, alloc, *name, kind, places, widths)
-}
 
-/// Makes the change, unless a check applies to it.
-pub fn apply(present: &mut Present, alloc: Global, change: &Change) -> Answer
-    requires { IsPadded change.now }
-    ensures { Changes present.old change.now result present.new }
-{
-    match change {
-        Change::Net { name, width } => add_net(present, *name, *width),
-        Change::Add { name, kind, nets } => add_part(present, alloc, name, *kind, nets),
-        Change::Measure { net, cycle, value } => measure(present, net, *cycle, *value),
+    // The component is put last and remembered, or no memory is found, and then it is taken back.
+    fn place_part(&mut self, component: Component) -> Answer
+        requires free { named_in self.old component.name ≡ None }
+        requires room { length self.old.parts < MOST_PARTS }
+        requires lawful { IsLawfulComponent self.old component }
+        ensures { PlacesPart self.old component result self.new }
+    {
+        if self.present.add_part(component).is_err() {
+            return Answer::NoMemory;
+        }
+        match remember_last(
+            self.alloc,
+            &self.present,
+            &mut self.engine,
+            &mut self.standing,
+        ) {
+            Ok(()) => Answer::Accepted,
+            Err(_) => {
+                self.present.drop_part();
+                Answer::NoMemory
+            }
+        }
+    }
+
+    fn add_part(&mut self, name: &Name, kind: Kind, nets: &[Name; 3]) -> Answer
+        requires { RepeatsLast kind nets.now }
+        ensures { Changes self.old (change.Add name.now kind nets.now) result self.new }
+    {
+        if has_name(&self.present, name) {
+            return Answer::Refused(Refusal::NotBuilt);
+        }
+        let Some(places) = nets_of(&self.present, nets) else {
+            return Answer::Refused(Refusal::NotBuilt);
+        };
+        let widths = widths_at(&self.present, &places);
+        if is_part_barred(&self.present, kind, &widths) {
+            return Answer::Refused(Refusal::NotBuilt);
+        }
+        match component_at(&self.present, self.alloc, *name, kind, places, widths) {
+            Ok(component) => self.place_part(component),
+            Err(_) => Answer::NoMemory,
+        }
+    }
+
+    fn measure(&mut self, net: &Name, cycle: u64, value: u64) -> Answer
+        ensures { Changes self.old (change.Measure net.now cycle value) result self.new }
+    {
+        let Some(place) = net_of(&self.present, net) else {
+            return Answer::Refused(Refusal::NotBuilt);
+        };
+        if is_reading_barred(&self.present, place, cycle, value) {
+            return Answer::Refused(Refusal::NotBuilt);
+        }
+        let cell = Cell {
+            net: place,
+            cycle: cycle as u8,
+        };
+        let fact = Fact { cell, value };
+        match remember_reading(&self.present, &mut self.engine, &mut self.standing, fact) {
+            Ok(()) => {
+                self.present.set_reading(fact);
+                Answer::Accepted
+            }
+            Err(_) => Answer::NoMemory,
+        }
+    }
+
+    /// Makes the change, unless a check applies to it.
+    pub fn apply(&mut self, change: &Change) -> Answer
+        requires { IsPadded change.now }
+        ensures { Changes self.old change.now result self.new }
+    {
+        match change {
+            Change::Net { name, width } => self.add_net(*name, *width),
+            Change::Add { name, kind, nets } => self.add_part(name, *kind, nets),
+            Change::Measure { net, cycle, value } => self.measure(net, *cycle, *value),
+        }
     }
 }

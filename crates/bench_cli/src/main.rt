@@ -9,7 +9,9 @@ ghost use Rattle.bench_cli.specs.Statuses.{number_of};
 ghost use Rattle.bench_cli.specs.Words.{IsRun, TellsUsage};
 
 mod changes;
+mod labels;
 mod reading;
+mod remembering;
 mod replies;
 mod requests;
 mod session;

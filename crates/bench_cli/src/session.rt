@@ -4,7 +4,8 @@ ghost use Rattle.bench_io.specs.Causes.{Rose};
 ghost use Rattle.bench_cli.specs.Session.{Session, WhereTold};
 ghost use Rattle.bench_cli.specs.Causes.{TakesTooMuch};
 ghost use Rattle.bench_cli.specs.Turns.{Steps, tally_after, status_of, ending_of};
-ghost use Rattle.bench_cli.specs.Answers.{reply_of};
+ghost use Rattle.bench_cli.specs.Answers.{IsReply};
+ghost use Rattle.bench_cli.specs.Replies.{Reply};
 ghost use Rattle.bench_cli.specs.State.{State};
 
 use crate::Status;
@@ -22,7 +23,7 @@ pub struct Tally {
 
 impl Tally {
     fn note(&mut self, answer: &Answer)
-        ensures { (s : State) → self.new ≡ tally_after self.old (reply_of s answer.now) }
+        ensures { (s : State) (reply : Reply) → IsReply s answer.now reply → self.new ≡ tally_after self.old reply }
     {
         match answer {
             Answer::Nothing | Answer::Accepted | Answer::Label { .. } => {}
@@ -108,7 +109,7 @@ pub fn run<S: Source, K: Sink>(alloc: Global, source: &mut S, sink: &mut K) -> S
         match step(&mut reader, &mut bench, source) {
             Ok(answer) => {
                 tally.note(&answer);
-                if let Err(_) = write_answer(bench.present(), &answer, sink) {
+                if let Err(_) = write_answer(&bench, &answer, sink) {
                     return Status::WriteFault;
                 }
             }

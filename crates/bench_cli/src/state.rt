@@ -1,36 +1,47 @@
 // What a session keeps between lines, and what a line does to it.
-ghost use Rattle.std.specs.Prelude.{◌≡◌, ◌≤◌, length, IfOk};
+ghost use Rattle.std.specs.Prelude.{◌≡◌, ◌≤◌, ◌<◌, ◌++◌, List, codes, length, IfOk};
 ghost use Rattle.bench_io.specs.Lines.{LONGEST};
+ghost use Rattle.bench_io.specs.Writing.{Writes};
+ghost use Rattle.circuit_model.specs.Printed.{Labelled, IsPrintedLabel};
 ghost use Rattle.bench_cli.specs.State.{empty, Takes};
-ghost use Rattle.bench_cli.specs.Answers.{reply_of, IsWritable};
+ghost use Rattle.bench_cli.specs.Answers.{IsReply, IsWritable};
+ghost use Rattle.bench_cli.specs.Replies.{Reply};
 ghost use Rattle.bench_cli.specs.Serving.{AsksPadded, Serves, Asked};
+ghost use Rattle.bench_cli.specs.Texts.{label_lines};
 ghost use Rattle.bench_cli.specs.declared.requests.Query.TheVariants as query;
 
-use crate::changes::{self, net_of};
+use crate::changes::net_of;
+use crate::labels::write_label;
 use crate::reading::has_only_printable;
 use crate::replies::{Answer, Refusal};
 use crate::requests::{Query, Request, read_request};
+use bench_io::{Failed, Sink};
 use circuit_model::{Cell, Name, Present};
-use present_closure::find_value;
+use label_engine::Engine;
+use standing_view::Standing;
 use std::alloc::{AllocError, Global};
 use std::marker::Model;
 
-/// The state of a session.
+/// The state of a session: the present, and beside it the engine with the slots of what stands. Contracts see the
+/// present alone; that the engine remembers exactly what stands in it is kept at every moment.
 #[derive(Drop)]
 pub struct Bench {
-    alloc: Global,
-    present: Present,
+    pub(crate) alloc: Global,
+    pub(crate) present: Present,
+    pub(crate) engine: Engine,
+    pub(crate) standing: Standing,
 }
 
 impl Model for Bench {
-    ghost use Rattle.std.specs.Prelude.{◌≡◌};
     ghost use Rattle.bench_cli.specs.State.{State};
+    ghost use Rattle.inference_search.specs.Slots.{stock};
+    ghost use Rattle.standing_view.specs.View.{StandsFor};
 
     ghost Value = { State };
 
     ghost view = { λ b. b.present };
 
-    ghost invariant = { λ b. b.present.cycles ≡ 1 };
+    ghost invariant = { λ b. StandsFor (stock b.engine.slots) b.standing b.present };
 }
 
 impl Bench {
@@ -41,13 +52,15 @@ impl Bench {
         Ok(Bench {
             alloc,
             present: Present::open(alloc)?,
+            engine: Engine::open(alloc)?,
+            standing: Standing::open(alloc)?,
         })
     }
 
     /// Answers a line that is not too long.
     pub fn take(&mut self, line: &[u8]) -> Answer
         requires { length line.now ≤ LONGEST }
-        ensures takes { Takes self.old line.now (reply_of self.new result) self.new }
+        ensures takes { (reply : Reply) → IsReply self.new result reply → Takes self.old line.now reply self.new }
         ensures writable { IsWritable self.new result }
     {
         if !has_only_printable(line) {
@@ -62,12 +75,12 @@ impl Bench {
     // Answers a request.
     fn serve(&mut self, request: &Request) -> Answer
         requires { AsksPadded request.now }
-        ensures serves { Serves self.old request.now (reply_of self.new result) self.new }
+        ensures serves { (reply : Reply) → IsReply self.new result reply → Serves self.old request.now reply self.new }
         ensures writable { IsWritable self.new result }
     {
         match request {
             Request::Nothing => Answer::Nothing,
-            Request::Change(change) => changes::apply(&mut self.present, self.alloc, change),
+            Request::Change(change) => self.apply(change),
             Request::Query(query) => self.ask(query),
         }
     }
@@ -92,20 +105,20 @@ impl Bench {
         if cycle >= self.present.cycles() as u64 {
             return Answer::Refused(Refusal::NotBuilt);
         }
-        let cell = Cell {
-            net: place,
-            cycle: cycle as u8,
-        };
-        match find_value(self.alloc, &self.present, cell) {
-            Ok(found) => Answer::Label { cell, found },
-            Err(_) => Answer::NoMemory,
+        Answer::Label {
+            cell: Cell {
+                net: place,
+                cycle: cycle as u8,
+            },
         }
     }
 
-    /// The present.
-    pub fn present(&self) -> &Present
-        ensures { result.now ≡ self.now }
+    /// Writes the lines of the printed label of a cell, and `ok`.
+    pub fn write_label<K: Sink>(&self, cell: Cell, sink: &mut K) -> Result<(), Failed>
+        requires { cell.net < length self.now.nets }
+        ensures { (label : List Labelled) × IsPrintedLabel self.now cell label
+            × Writes (K.held sink.old) (K.held sink.new) (K.faults sink.old) (K.faults sink.new) result (label_lines self.now cell label ++ codes "ok\n") }
     {
-        &self.present
+        write_label(&self.present, &self.engine, &self.standing, cell, sink)
     }
 }

@@ -153,7 +153,7 @@ const ROWS: [(&[u8], &[u8]); 9] = [
     // all three cannot be right
     (
         b"measure A 5\nmeasure B 7\nmeasure Z 13\nlabel Z\nlabel A\n",
-        b"ok\nok\nok\nclash\nok\nclash\nok\n",
+        b"ok\nok\nok\nZ=12 {S;A,B}\nZ=13 {;Z}\nok\nA=5 {;A}\nA=6 {S;B,Z}\nok\n",
     ),
     // an adder with one net twice
     (
@@ -172,13 +172,159 @@ const ROWS: [(&[u8], &[u8]); 9] = [
     ),
 ];
 
+// Whole sessions and their replies, one for each kind and more. In each, A, B and Z are nets of width 4, and P is one
+// of width 8.
+const KIND_ROWS: [(&[u8], &[u8]); 16] = [
+    // A is 1100 and B is 1010
+    (
+        b"buf G A Z\nmeasure A 12\nlabel Z\n",
+        b"ok\nok\nZ=12 {G;A}\nok\n",
+    ),
+    (
+        b"not G A Z\nmeasure A 12\nlabel Z\n",
+        b"ok\nok\nZ=3 {G;A}\nok\n",
+    ),
+    (
+        b"and G A B Z\nmeasure A 12\nmeasure B 10\nlabel Z\n",
+        b"ok\nok\nok\nZ=8 {G;A,B}\nok\n",
+    ),
+    (
+        b"or G A B Z\nmeasure A 12\nmeasure B 10\nlabel Z\n",
+        b"ok\nok\nok\nZ=14 {G;A,B}\nok\n",
+    ),
+    (
+        b"xor G A B Z\nmeasure A 12\nmeasure B 10\nlabel Z\n",
+        b"ok\nok\nok\nZ=6 {G;A,B}\nok\n",
+    ),
+    (
+        b"nand G A B Z\nmeasure A 12\nmeasure B 10\nlabel Z\n",
+        b"ok\nok\nok\nZ=7 {G;A,B}\nok\n",
+    ),
+    (
+        b"nor G A B Z\nmeasure A 12\nmeasure B 10\nlabel Z\n",
+        b"ok\nok\nok\nZ=1 {G;A,B}\nok\n",
+    ),
+    (
+        b"xnor G A B Z\nmeasure A 12\nmeasure B 10\nlabel Z\n",
+        b"ok\nok\nok\nZ=9 {G;A,B}\nok\n",
+    ),
+    (
+        b"add G A B Z\nmeasure A 12\nmeasure B 10\nlabel Z\n",
+        b"ok\nok\nok\nZ=6 {G;A,B}\nok\n",
+    ),
+    (
+        b"mul G A B P\nmeasure A 3\nmeasure B 5\nlabel P\n",
+        b"ok\nok\nok\nP=15 {G;A,B}\nok\n",
+    ),
+    (b"const G Z 9\nlabel Z\n", b"ok\nZ=9 {G;}\nok\n"),
+    // a word that decides alone, and one that leaves a bit open
+    (
+        b"and G A B Z\nmeasure A 0\nlabel Z\n",
+        b"ok\nok\nZ=0 {G;A}\nok\n",
+    ),
+    (b"or G A B Z\nmeasure A 7\nlabel Z\n", b"ok\nok\nok\n"),
+    // a factor from the product
+    (
+        b"mul G A B P\nmeasure P 15\nmeasure B 5\nlabel A\n",
+        b"ok\nok\nok\nA=3 {G;B,P}\nok\n",
+    ),
+    // a constant is seen wrong
+    (
+        b"const G Z 9\nnot H A Z\nmeasure A 7\nlabel Z\n",
+        b"ok\nok\nok\nZ=8 {H;A}\nZ=9 {G;}\nok\n",
+    ),
+    // the greatest constant, and one more
+    (
+        b"const G Z 16\nconst G Z 15\nlabel Z\n",
+        b"no 50 not built\nok\nZ=15 {G;}\nok\n",
+    ),
+];
+
+// Lines and what they are asked then, with the replies to the questions alone; each of the lines is answered `ok`.
+const LABEL_ROWS: [(&[u8], &[u8], &[u8]); 9] = [
+    // two adders at one net
+    (
+        b"net A 8\nnet B 8\nnet C 8\nnet D 8\nnet Z 8\nadd S1 A B Z\nadd S2 C D Z\nmeasure A 1\nmeasure B 2\nmeasure C 2\nmeasure D 1\nmeasure Z 4\n",
+        b"label Z\nlabel A\n",
+        b"Z=3 {S1;A,B}\nZ=3 {S2;C,D}\nZ=4 {;Z}\nok\nA=1 {;A}\nA=1 {S1,S2;B,C,D}\nA=2 {S1;B,Z}\nok\n",
+    ),
+    // the polybox
+    (
+        b"net A 4\nnet B 4\nnet C 4\nnet D 4\nnet E 4\nnet X 8\nnet Y 8\nnet Z 8\nnet F 8\nnet G 8\nmul M1 A C X\nmul M2 B D Y\nmul M3 C E Z\nadd A1 X Y F\nadd A2 Y Z G\nmeasure A 3\nmeasure B 2\nmeasure C 2\nmeasure D 3\nmeasure E 3\nmeasure F 10\nmeasure G 12\n",
+        b"label X\n",
+        b"X=4 {M2,A1;B,D,F}\nX=4 {M3,A1,A2;C,E,F,G}\nX=6 {M1;A,C}\nX=6 {M1,M2,M3,A2;A,B,D,E,G}\nok\n",
+    ),
+    // zero in a multiplier
+    (
+        b"net A 4\nnet B 4\nnet Z 8\nmul M A B Z\nmeasure A 0\n",
+        b"label Z\nlabel B\n",
+        b"Z=0 {M;A}\nok\nok\n",
+    ),
+    // a conjunction forces a word only where no other goes with the known ones
+    (
+        b"net A 32\nnet B 32\nnet Z 32\nand G A B Z\nmeasure Z 4294967295\n",
+        b"label A\n",
+        b"A=4294967295 {G;Z}\nok\n",
+    ),
+    (
+        b"net A 4\nnet B 4\nnet Z 4\nand G A B Z\nmeasure A 6\nmeasure Z 4\n",
+        b"label B\n",
+        b"ok\n",
+    ),
+    (
+        b"net A 4\nnet B 4\nnet Z 4\nand G A B Z\nmeasure A 15\nmeasure Z 4\n",
+        b"label B\n",
+        b"B=4 {G;A,Z}\nok\n",
+    ),
+    // one net at two ports
+    (
+        b"net X 4\nnet Z 4\nxor G X X Z\nmeasure X 5\n",
+        b"label Z\n",
+        b"Z=0 {G;X}\nok\n",
+    ),
+    // two constants at one net
+    (
+        b"net Z 4\nconst K1 Z 1\nconst K2 Z 2\n",
+        b"label Z\n",
+        b"Z=1 {K1;}\nZ=2 {K2;}\nok\n",
+    ),
+    // an adder whose sum is one of its summands: each word would give the next one
+    (
+        b"net A 32\nnet B 32\nadd S A B A\nmeasure A 5\nmeasure B 1\n",
+        b"label A\nlabel B\n",
+        b"A=5 {;A}\nok\nB=0 {S;A}\nB=1 {;B}\nok\n",
+    ),
+];
+
 #[test]
-fn rows(rt: HostRuntime) -> Result<(), Fail> {
+fn rows_of_labels(rt: HostRuntime) -> Result<(), Fail> {
     let alloc = rt.alloc();
-    for (i, (lines, replies)) in ROWS.iter().enumerate() {
-        let mut text = Vec::from_slice(alloc, b"net A 8\nnet B 8\nnet Z 8\nadd S A B Z\n")?;
+    for (i, (lines, questions, replies)) in LABEL_ROWS.iter().enumerate() {
+        let mut text = Vec::from_slice(alloc, lines)?;
+        text.extend_from_slice(questions)?;
+        let mut want = Vec::new(alloc);
+        for _line in 0..lines_ended(lines) {
+            want.extend_from_slice(b"ok\n")?;
+        }
+        want.extend_from_slice(replies)?;
+        let (status, sink) = ran(alloc, "run", &text, 1024, NEVER, NEVER)?;
+        assert!(rt; status == Status::Done, "row {i}");
+        assert!(rt; sink.held() == want.as_slice(), "row {i}");
+    }
+    Ok(())
+}
+
+// Runs each row after the lines in front.
+fn run_rows(
+    rt: &impl Abort,
+    alloc: Global,
+    front: (&[u8], &[u8]),
+    rows: &[(&[u8], &[u8])],
+) -> Result<(), Fail> {
+    for (i, (lines, replies)) in rows.iter().enumerate() {
+        let mut text = Vec::from_slice(alloc, front.0)?;
         text.extend_from_slice(lines)?;
-        let mut want = Vec::from_slice(alloc, b"ok\nok\nok\nok\n")?;
+        let mut want = Vec::from_slice(alloc, front.1)?;
         want.extend_from_slice(replies)?;
         let (_, sink) = ran(alloc, "run", &text, 1024, NEVER, NEVER)?;
         assert!(rt; sink.held() == want.as_slice(), "row {i}");
@@ -186,8 +332,26 @@ fn rows(rt: HostRuntime) -> Result<(), Fail> {
     Ok(())
 }
 
-// Lines that no check lets pass, after the first lines of `SESSION`.
-const REFUSED: [&[u8]; 21] = [
+#[test]
+fn rows(rt: HostRuntime) -> Result<(), Fail> {
+    let front = (
+        b"net A 8\nnet B 8\nnet Z 8\nadd S A B Z\n".as_slice(),
+        b"ok\nok\nok\nok\n".as_slice(),
+    );
+    run_rows(&rt, rt.alloc(), front, &ROWS)
+}
+
+#[test]
+fn rows_of_kinds(rt: HostRuntime) -> Result<(), Fail> {
+    let front = (
+        b"net A 4\nnet B 4\nnet Z 4\nnet P 8\n".as_slice(),
+        b"ok\nok\nok\nok\n".as_slice(),
+    );
+    run_rows(&rt, rt.alloc(), front, &KIND_ROWS)
+}
+
+// Lines that no check lets pass, after a net N of width 4 and the lines of `SESSION`.
+const REFUSED: [&[u8]; 38] = [
     b"net C 0",
     b"net C 33",
     b"net C",
@@ -199,6 +363,27 @@ const REFUSED: [&[u8]; 21] = [
     b"add T A B Q",
     b"add T A B N",
     b"add T A B",
+    // another number of words
+    b"buf T A",
+    b"not T A B Z",
+    b"nor T A Z",
+    b"xnor T A B Z Z",
+    b"const K Z",
+    b"const K Z 1 1",
+    // no name, no number, no net
+    b"buf 9T A Z",
+    b"and T A 9B Z",
+    b"const K Z x",
+    b"const K Z 00000000001",
+    b"const K S 1",
+    b"or T A S Z",
+    // the value does not fit, or the widths disagree
+    b"const K N 16",
+    b"not T A N",
+    b"nand T A N Z",
+    b"mul T A B Z",
+    // not yet there
+    b"reg R A Z 0",
     b"measure Q 1",
     b"measure S 1",
     b"measure A 5",

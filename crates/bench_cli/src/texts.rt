@@ -1,14 +1,17 @@
 // How cells, facts and environments are written, without memory.
 ghost use Rattle.std.specs.Prelude.{◌≡◌, ◌<◌, ◌==◌, ◌++◌, codes, decimal, length, slice_get, Some, IsTrue, ◌∷◌, [], if◌then◌else◌};
 ghost use Rattle.std.specs.List.{join_with_byte};
+ghost use Rattle.bench_cli.specs.Labels.{StandsAlike};
 ghost use Rattle.bench_cli.specs.Puts.{Puts};
-ghost use Rattle.present_closure.specs.Finding.{members};
+ghost use Rattle.environment_sets.specs.Members.{members};
+ghost use Rattle.standing_view.specs.View.{places};
 ghost use Rattle.bench_cli.specs.Texts.{cell_text, fact_text, part_names_in, cells_in, environment_text, label_line};
 
 use bench_io::{Sink, write_all};
 use circuit_model::{Cell, Fact, Present};
+use environment_sets::Env;
 use itoa::Buffer;
-use present_closure::Environment;
+use standing_view::Standing;
 
 /// Writes the bytes, unless a write has failed before. It answers whether one has failed.
 pub fn put<K: Sink>(sink: &mut K, failed: bool, bytes: &[u8]) -> bool
@@ -67,14 +70,21 @@ fn put_fact<K: Sink>(sink: &mut K, failed: bool, present: &Present, fact: Fact) 
 }
 
 // The names of the components in the set, in order.
-fn put_parts<K: Sink>(sink: &mut K, failed: bool, present: &Present, from: &Environment) -> bool
-    ensures { Puts failed result (K.held sink.old) (K.held sink.new) (K.faults sink.old) (K.faults sink.new) (join_with_byte 44 (part_names_in (members from.now) 0 present.now.parts)) }
+fn put_parts<K: Sink>(
+    sink: &mut K,
+    failed: bool,
+    present: &Present,
+    standing: &Standing,
+    env: &Env,
+) -> bool
+    requires { StandsAlike standing.now present.now }
+    ensures { Puts failed result (K.held sink.old) (K.held sink.new) (K.faults sink.old) (K.faults sink.new) (join_with_byte 44 (part_names_in (places standing.now (members env.now)) 0 present.now.parts)) }
 {
     let mut failed = failed;
     let mut is_first = true;
     for place in 0..present.parts() {
         let part = present.part_at(place);
-        if from.has_part(place) {
+        if standing.has_part(env, place) {
             failed = put_piece(sink, failed, is_first, part.name.bytes());
             is_first = false;
         }
@@ -101,14 +111,21 @@ fn put_next_cell<K: Sink>(
 }
 
 // The measured cells in the set, in order.
-fn put_cells<K: Sink>(sink: &mut K, failed: bool, present: &Present, from: &Environment) -> bool
-    ensures { Puts failed result (K.held sink.old) (K.held sink.new) (K.faults sink.old) (K.faults sink.new) (join_with_byte 44 (cells_in present.now (members from.now) present.now.readings)) }
+fn put_cells<K: Sink>(
+    sink: &mut K,
+    failed: bool,
+    present: &Present,
+    standing: &Standing,
+    env: &Env,
+) -> bool
+    requires { StandsAlike standing.now present.now }
+    ensures { Puts failed result (K.held sink.old) (K.held sink.new) (K.faults sink.old) (K.faults sink.new) (join_with_byte 44 (cells_in present.now (places standing.now (members env.now)) present.now.readings)) }
 {
     let mut failed = failed;
     let mut is_first = true;
     for place in 0..present.readings() {
         let cell = present.reading(place).cell;
-        if from.has_cell(cell) {
+        if standing.has_reading(env, place) {
             failed = put_next_cell(sink, failed, is_first, present, cell);
             is_first = false;
         }
@@ -120,30 +137,34 @@ fn put_environment<K: Sink>(
     sink: &mut K,
     failed: bool,
     present: &Present,
-    from: &Environment,
+    standing: &Standing,
+    env: &Env,
 ) -> bool
-    ensures { Puts failed result (K.held sink.old) (K.held sink.new) (K.faults sink.old) (K.faults sink.new) (environment_text present.now (members from.now)) }
+    requires { StandsAlike standing.now present.now }
+    ensures { Puts failed result (K.held sink.old) (K.held sink.new) (K.faults sink.old) (K.faults sink.new) (environment_text present.now (places standing.now (members env.now))) }
 {
     let failed = put(sink, failed, b"{");
-    let failed = put_parts(sink, failed, present, from);
+    let failed = put_parts(sink, failed, present, standing, env);
     let failed = put(sink, failed, b";");
-    let failed = put_cells(sink, failed, present, from);
+    let failed = put_cells(sink, failed, present, standing, env);
     put(sink, failed, b"}")
 }
 
-/// A line of a label: a fact and an environment from which it follows.
+/// A line of a label: a fact and an environment of its label.
 pub fn put_label_line<K: Sink>(
     sink: &mut K,
     failed: bool,
     present: &Present,
     fact: Fact,
-    from: &Environment,
+    standing: &Standing,
+    env: &Env,
 ) -> bool
-    requires { fact.cell.net < length present.now.nets }
-    ensures { Puts failed result (K.held sink.old) (K.held sink.new) (K.faults sink.old) (K.faults sink.new) (label_line present.now fact (members from.now)) }
+    requires net { fact.cell.net < length present.now.nets }
+    requires alike { StandsAlike standing.now present.now }
+    ensures { Puts failed result (K.held sink.old) (K.held sink.new) (K.faults sink.old) (K.faults sink.new) (label_line present.now fact (places standing.now (members env.now))) }
 {
     let failed = put_fact(sink, failed, present, fact);
     let failed = put(sink, failed, b" ");
-    let failed = put_environment(sink, failed, present, from);
+    let failed = put_environment(sink, failed, present, standing, env);
     put(sink, failed, b"\n")
 }

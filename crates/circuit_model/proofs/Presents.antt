@@ -1,21 +1,22 @@
 -- What a further net, component or measurement keeps of a lawful present.
-use Rattle.std.proofs.Common.{◌≡◌, ℕ, suc, ◌+◌, ◌*◌, ◌^◌, ◌<◌, ◌≤◌, ◌⊎◌, inl, inr, Bool, false, cond, not, ltb, List, [], ◌∷◌, ◌++◌, length, map, Option, Some, None, IsTrue, refl, sym, ap, subst, ◌∙◌, arith}
+use Rattle.std.proofs.Common.{◌≡◌, ℕ, suc, ◌+◌, ◌-◌, ◌*◌, ◌^◌, ◌<◌, ◌≤◌, ◌⊎◌, inl, inr, Bool, false, cond, not, ltb, List, [], ◌∷◌, ◌++◌, length, map, take, drop, Option, Some, None, IsTrue, refl, sym, ap, subst, ◌∙◌, arith}
 use Rattle.std.specs.Prelude.{slice_index}
 use Rattle.std.specs.List.{slice_get, All, position, prefix_len}
 use Rattle.std.specs.Str.{bytes_eq}
 use Rattle.std.proofs.lemmas.Bool.{false≢true}
 use Rattle.std.proofs.lemmas.Bool.Decides.{nat_tests}
 use Rattle.std.proofs.lemmas.Slice.Eq.{bytes_eq-Decides}
-use Rattle.std.proofs.lemmas.List.{append-nil, append_assoc, length_push, map-append, length-map, get_or_append_left, get_or-map}
+use Rattle.std.proofs.lemmas.List.{append-nil, append_assoc, length_push, map-append, length-map, get_or_append_left, get_or-map, take-append-drop, length-take}
+use Rattle.std.proofs.Math.Seq.{take-append_seam}
 use Rattle.std.proofs.lemmas.Option.{slice_get_within, get_or_from_slice_get}
-use Rattle.std.proofs.lemmas.List.Elements.{All-cons, All-head, All-tail, All-push, All-weaker}
+use Rattle.std.proofs.lemmas.List.Elements.{All-cons, All-head, All-tail, All-push, All-take, All-weaker}
 use Rattle.environment_sets.specs.Lists.{IsIn, AreDistinct}
 use Rattle.circuit_model.specs.declared.model.Fact.{Fact}
 use Rattle.circuit_model.specs.declared.present.Component.{Component}
 use Rattle.circuit_model.specs.declared.present.Net.{Net}
 use Rattle.circuit_model.specs.Names.{is_name}
 use Rattle.circuit_model.specs.Kinds.{are_widths, fits_value, instances}
-use Rattle.circuit_model.specs.Present.{MOST_NETS, MOST_CELLS, MOST_PARTS, Setup, names_of, net_named, part_named, net_or_part, named_in, width_of, with_net, with_part, IsLawfulComponent, IsFactOf, IsLawful}
+use Rattle.circuit_model.specs.Present.{MOST_CYCLES, MOST_NETS, MOST_CELLS, MOST_PARTS, Setup, names_of, net_named, part_named, net_or_part, named_in, width_of, with_cycles, with_net, with_part, without_last_part, IsLawfulComponent, IsFactOf, IsLawful}
 
 passed : (b : Bool) (i n : ℕ) → cond (ltb (cond (not b) (1 + i) 0) (suc n)) (Some (cond (not b) (1 + i) 0)) None ≡ None → (b ≡ false) × (cond (ltb i n) (Some i) None ≡ None)
 passed b i n h = (grind (arith, nat_tests), grind (arith, nat_tests))
@@ -171,3 +172,71 @@ module _ (c : Component) (s : Setup) where
         each_reading = All-weaker (IsFactOf s) (IsFactOf (with_part c s)) IsFactOf-with_part s.readings h.each_reading;
         rising = h.rising;
       }
+
+module _ {X : Type 0} where
+  in_front : (xs ys : List X) (x : X) → IsIn xs x → IsIn (xs ++ ys) x
+  in_front [] ys x h = absurd h
+  in_front (y ∷ xs) ys x (inl e) = inl e
+  in_front (y ∷ xs) ys x (inr h) = inr (in_front xs ys x h)
+
+  distinct_front : (xs ys : List X) → AreDistinct (xs ++ ys) → AreDistinct xs
+  distinct_front [] ys h = tt
+  distinct_front (x ∷ xs) ys h = (λ y i. h.0 y (in_front xs ys y i), distinct_front xs ys h.1)
+
+  all_front : (P : X → Type 0) (xs ys : List X) → All P (xs ++ ys) → All P xs
+  all_front P xs ys h = subst (All P) (take-append_seam xs ys) (All-take P (length xs) (xs ++ ys) h)
+
+-- a present without its last component is lawful
+module _ (s : Setup) where
+  component_without : (d : Component) → IsLawfulComponent s d → IsLawfulComponent (without_last_part s) d
+  component_without d h = record { three = h.three; nets = h.nets; unused = h.unused; widths = h.widths; value = h.value; part = h.part }
+
+  fact_without : (f : Fact) → IsFactOf s f → IsFactOf (without_last_part s) f
+  fact_without f h = record { net = h.net; cycle = h.cycle; fits = h.fits }
+
+  pub IsLawful-without_last : IsLawful s → IsLawful (without_last_part s)
+  IsLawful-without_last h =
+      let n : ℕ = length s.parts - 1 in
+      let nets : List (List ℕ) = map (λ (n : Net). n.name) s.nets in
+      let front : List (List ℕ) = map (λ (p : Component). p.name) (take n s.parts) in
+      let rest : List (List ℕ) = map (λ (p : Component). p.name) (drop n s.parts) in
+      let parts : front ++ rest ≡ map (λ (p : Component). p.name) s.parts = sym (map-append (λ (p : Component). p.name) (take n s.parts) (drop n s.parts)) ∙ ap (λ ps. map (λ (p : Component). p.name) ps) (take-append-drop n s.parts) in
+      let names : names_of s ≡ (nets ++ front) ++ rest = ap (λ ps. nets ++ ps) (sym parts) ∙ sym (append_assoc nets front rest) in
+      record {
+        some_cycle = h.some_cycle;
+        cycles = h.cycles;
+        nets = h.nets;
+        cells = h.cells;
+        parts = let few : length (take n s.parts) ≤ length s.parts = omega (arith, length-take n s.parts) in omega (arith, few, h.parts);
+        readings = h.readings;
+        names = all_front (λ n. IsTrue (is_name n)) (nets ++ front) rest (subst (λ (ns : List (List ℕ)). All (λ n. IsTrue (is_name n)) ns) names h.names);
+        distinct = distinct_front (nets ++ front) rest (subst (λ (ns : List (List ℕ)). AreDistinct ns) names h.distinct);
+        widths = h.widths;
+        each_part = All-weaker (IsLawfulComponent s) (IsLawfulComponent (without_last_part s)) component_without (take n s.parts) (All-take (IsLawfulComponent s) n s.parts h.each_part);
+        each_reading = All-weaker (IsFactOf s) (IsFactOf (without_last_part s)) fact_without s.readings h.each_reading;
+        rising = h.rising;
+      }
+
+-- where no nets are there, there are neither components nor measurements, and any lawful number of cycles will do
+module _ (n : ℕ) (s : Setup) (empty : length s.nets ≡ 0) where
+  no_component : (c : Component) → IsLawfulComponent s c → IsLawfulComponent (with_cycles n s) c
+  no_component c h = absurd (let low = h.nets 0 0 (omega (arith, h.three)) in omega (arith, low, empty))
+
+  no_fact : (f : Fact) → IsFactOf s f → IsFactOf (with_cycles n s) f
+  no_fact f h = absurd (let low = h.net in omega (arith, low, empty))
+
+  pub IsLawful-with_cycles : IsLawful s → 1 ≤ n → n ≤ MOST_CYCLES → IsLawful (with_cycles n s)
+  IsLawful-with_cycles h some most = record {
+    some_cycle = some;
+    cycles = most;
+    nets = h.nets;
+    cells = rw empty (omega arith);
+    parts = h.parts;
+    readings = h.readings;
+    names = h.names;
+    distinct = h.distinct;
+    widths = h.widths;
+    each_part = All-weaker (IsLawfulComponent s) (IsLawfulComponent (with_cycles n s)) no_component s.parts h.each_part;
+    each_reading = All-weaker (IsFactOf s) (IsFactOf (with_cycles n s)) no_fact s.readings h.each_reading;
+    rising = h.rising;
+  }

@@ -17,3 +17,4 @@ pub mod Load
 pub mod Probe
 pub mod Derivation
 pub mod Splitting
+pub mod Printed

@@ -1,5 +1,5 @@
 -- The present: a circuit with its standing measurements.
-use Rattle.std.specs.Prelude.{◌≡◌, ℕ, ◌*◌, ◌^◌, ◌<◌, ◌≤◌, ◌==◌, Bool, ◌||◌, ◌&&◌, nat_lt, if◌then◌else◌, List, [], ◌∷◌, ◌++◌, length, map, slice_index, Option, Some, None, IsTrue}
+use Rattle.std.specs.Prelude.{◌≡◌, ℕ, ◌-◌, ◌*◌, ◌^◌, ◌<◌, ◌≤◌, ◌==◌, Bool, ◌||◌, ◌&&◌, nat_lt, if◌then◌else◌, List, [], ◌∷◌, ◌++◌, length, map, take, slice_index, Option, Some, None, IsTrue}
 use Rattle.std.specs.List.{All, position}
 use Rattle.std.specs.Str.{bytes_eq}
 use Rattle.std.specs.Option.{option_map}
@@ -82,12 +82,19 @@ abbrev pub with_reading : Fact → List Fact → List Fact
 with_reading f [] = f ∷ []
 with_reading f (g ∷ readings) = if is_cell_before f.cell g.cell then f ∷ g ∷ readings else g ∷ with_reading f readings
 
--- The changes of a present: one more net, component or measurement.
+-- The changes of a present: the number of cycles; one more net, component or measurement.
+abbrev pub with_cycles : ℕ → Setup → Setup
+with_cycles cycles s = record s { cycles = cycles }
+
 abbrev pub with_net : Net → Setup → Setup
 with_net n s = record s { nets = s.nets ++ n ∷ [] }
 
 abbrev pub with_part : Component → Setup → Setup
 with_part c s = record s { parts = s.parts ++ c ∷ [] }
+
+-- the last component is gone
+abbrev pub without_last_part : Setup → Setup
+without_last_part s = record s { parts = take (length s.parts - 1) s.parts }
 
 abbrev pub with_standing : Fact → Setup → Setup
 with_standing f s = record s { readings = with_reading f s.readings }

@@ -1,5 +1,5 @@
 -- Stocks of named assumptions, and their labels and nogoods.
-use Rattle.std.specs.Prelude.{◌≡◌, IsTrue, Option, Some, IsSome}
+use Rattle.std.specs.Prelude.{◌≡◌, if◌then◌else◌, IsTrue, Option, Some, None, IsSome}
 use Rattle.circuit_model.specs.declared.model.Fact.{Fact}
 use Rattle.circuit_model.specs.declared.model.Assumption.{Assumption}
 use Rattle.circuit_model.specs.Closure.{Follows, Clashes}
@@ -9,6 +9,10 @@ abbrev pub Stock : Type 0 → Type 0
 Stock N = N → Option Assumption
 
 module _ {N : Type 0} where
+  -- the stock with these names alone
+  abbrev pub within : Set N → Stock N → Stock N
+  within E S name = if E name then S name else None
+
   -- the assumption is one that the environment names
   pub record IsChosen (S : Stock N) (E : Set N) (a : Assumption) : Type 0 where
     pub name : N

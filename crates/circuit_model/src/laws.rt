@@ -5,6 +5,7 @@ ghost use Rattle.circuit_model.specs.Derivation.{ValidDerivationsAreTrue, Canoni
 ghost use Rattle.circuit_model.specs.Diagnoses.{DiagnosesAreHittingSets, SomeDiagnosis, ReadingsAreConsistent};
 ghost use Rattle.circuit_model.specs.Laws.{ClosuresGrow, SubsetsAreConsistent, ClosuresAreClosed, LabelsOfAPart, NogoodsOfAPart, OneMoreForLabels, OneMoreForNogoods, ListedLabelsCover};
 ghost use Rattle.circuit_model.specs.Load.{LoadsGrow};
+ghost use Rattle.circuit_model.specs.Printed.{PrintedLabelsAreUnique};
 ghost use Rattle.circuit_model.specs.Renaming.{RenamedClosures, RenamedClashes, RenamedLabels, RenamedNogoods};
 ghost use Rattle.circuit_model.specs.Splitting.{TwoWordsSplit, TwoPredictionsSplit};
 
@@ -98,6 +99,11 @@ pub fn last_rounds_are_closures<N>()
 /// Where the next round adds nothing to a round, an environment clashes exactly where it clashes at that round.
 pub fn last_rounds_decide_clashes<N>()
     ensures { LastRoundsDecideClashes N }
+{}
+
+/// A cell has one printed label.
+pub fn printed_labels_are_unique()
+    ensures { PrintedLabelsAreUnique }
 {}
 
 /// The diagnoses are exactly the minimal hitting sets of the conflicts (Reiter 1987).

@@ -20,9 +20,9 @@ pub use laws::{
     labels_with_one_more_assumption, last_rounds_are_closures, last_rounds_decide_clashes,
     listed_labels_cover, listed_labels_decide, listed_nogoods_decide,
     nogoods_are_the_same_under_other_names, nogoods_of_fewer_assumptions,
-    nogoods_with_one_more_assumption, part_of_a_consistent_environment, readings_are_consistent,
-    settled_lists_are_exact, there_is_a_diagnosis, two_predictions_split, two_words_split,
-    valid_derivations_are_true,
+    nogoods_with_one_more_assumption, part_of_a_consistent_environment, printed_labels_are_unique,
+    readings_are_consistent, settled_lists_are_exact, there_is_a_diagnosis, two_predictions_split,
+    two_words_split, valid_derivations_are_true,
 };
 pub use model::{Assumption, Cell, Fact, Instance, Kind, Part, Primitive as Prim};
 pub use name::Name;

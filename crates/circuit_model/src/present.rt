@@ -4,7 +4,7 @@ ghost use Rattle.std.specs.Prelude.{◌≡◌, ◌≤◌, ◌<◌, ◌+◌, ◌*
 ghost use Rattle.std.specs.List.{insert, position};
 ghost use Rattle.std.specs.Str.{bytes_eq};
 ghost use Rattle.circuit_model.specs.Names.{is_name};
-ghost use Rattle.circuit_model.specs.Present.{MOST_NETS, MOST_CELLS, MOST_PARTS, MOST_READINGS, empty_setup, named_in, is_cell, is_cell_before, reading_in, with_reading, with_net, with_part, with_standing, IsLawful, IsLawfulComponent, IsFactOf};
+ghost use Rattle.circuit_model.specs.Present.{MOST_CYCLES, MOST_NETS, MOST_CELLS, MOST_PARTS, MOST_READINGS, empty_setup, named_in, is_cell, is_cell_before, reading_in, with_reading, with_cycles, with_net, with_part, without_last_part, with_standing, IsLawful, IsLawfulComponent, IsFactOf};
 
 use crate::limits;
 use crate::model::{Cell, Fact, Kind, Part};
@@ -149,6 +149,16 @@ impl Present {
         self.readings[place as usize]
     }
 
+    /// Sets the number of cycles, before the first net is declared. It takes no memory.
+    pub fn set_cycles(&mut self, cycles: u8)
+        requires empty { length self.old.nets ≡ 0 }
+        requires some_cycle { 1 ≤ cycles }
+        requires most { cycles ≤ MOST_CYCLES }
+        ensures { self.new ≡ with_cycles cycles self.old }
+    {
+        self.cycles = cycles;
+    }
+
     /// Declares a net, after the others. A refusal changes nothing.
     pub fn add_net(&mut self, name: Name, width: Width) -> Result<(), AllocError>
         requires free { named_in self.old name ≡ None }
@@ -173,6 +183,14 @@ impl Present {
         let _name = component.name.bytes();
         self.parts.push(component)?;
         Ok(())
+    }
+
+    /// Takes the last component away. It takes no memory.
+    pub fn drop_part(&mut self)
+        requires { 0 < length self.old.parts }
+        ensures { self.new ≡ without_last_part self.old }
+    {
+        self.parts.truncate(self.parts.len() - 1);
     }
 
     /// Puts a measurement among the standing ones, in order of cells. It takes no memory: the room was taken when the

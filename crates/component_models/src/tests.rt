@@ -68,208 +68,217 @@ fn inferred(
     infer(prim, [wa, wb, wz], [a, b, z])
 }
 
-#[test]
-fn words_at_the_ends(rt: HostRuntime) {
-    let four = (4, 4, 4);
-    let table = [
-        (
-            Prim::And,
-            (1, 1, 1),
-            (Some(0), None, Some(1)),
-            true,
-            [None, None, None],
-        ),
-        (
-            Prim::Nand,
-            (1, 1, 1),
-            (None, None, Some(0)),
-            false,
-            [Some(1), Some(1), None],
-        ),
-        (
-            Prim::Nand,
-            (1, 1, 1),
-            (Some(1), None, Some(1)),
-            false,
-            [None, Some(0), None],
-        ),
-        (
-            Prim::Nand,
-            (1, 1, 1),
-            (Some(0), None, Some(1)),
-            false,
-            [None, None, None],
-        ),
-        (
-            Prim::Nor,
-            four,
-            (Some(15), None, None),
-            false,
-            [None, None, Some(0)],
-        ),
-        (
-            Prim::Nor,
-            four,
-            (None, None, Some(15)),
-            false,
-            [Some(0), Some(0), None],
-        ),
-        (
-            Prim::Or,
-            four,
-            (Some(8), None, Some(4)),
-            true,
-            [None, None, None],
-        ),
-        (
-            Prim::Xnor,
-            four,
-            (Some(5), None, Some(15)),
-            false,
-            [None, Some(5), None],
-        ),
-        (
-            Prim::Add,
-            (1, 1, 1),
-            (Some(1), Some(1), None),
-            false,
-            [None, None, Some(0)],
-        ),
-        (
-            Prim::Add,
-            (32, 32, 32),
-            (Some(4294967295), None, Some(0)),
-            false,
-            [None, Some(1), None],
-        ),
-        (
-            Prim::Mul,
-            (4, 4, 8),
-            (Some(15), Some(15), None),
-            false,
-            [None, None, Some(225)],
-        ),
-        (
-            Prim::Mul,
-            (4, 4, 8),
-            (Some(3), None, Some(4)),
-            true,
-            [None, None, None],
-        ),
-        (
-            Prim::Mul,
-            (4, 4, 8),
-            (Some(1), None, Some(16)),
-            true,
-            [None, None, None],
-        ),
-        (
-            Prim::Mul,
-            (16, 16, 32),
-            (Some(65535), None, Some(4294836225)),
-            false,
-            [None, Some(65535), None],
-        ),
-    ];
-    for (prim, bits, known, refuted, forced) in table {
-        let inference = inferred(&rt, prim, bits, known);
-        assert_eq!(rt; inference.refuted, refuted, "{prim:?} {known:?}");
-        assert_eq!(rt; inference.forced, forced, "{prim:?} {known:?}");
+// A primitive, the widths of its ports, the known words, whether they refute, and the words that they force.
+type Row = (
+    Prim,
+    (u32, u32, u32),
+    (Option<u64>, Option<u64>, Option<u64>),
+    bool,
+    [Option<u64>; 3],
+);
+
+const AT_THE_ENDS: [Row; 14] = [
+    (
+        Prim::And,
+        (1, 1, 1),
+        (Some(0), None, Some(1)),
+        true,
+        [None, None, None],
+    ),
+    (
+        Prim::Nand,
+        (1, 1, 1),
+        (None, None, Some(0)),
+        false,
+        [Some(1), Some(1), None],
+    ),
+    (
+        Prim::Nand,
+        (1, 1, 1),
+        (Some(1), None, Some(1)),
+        false,
+        [None, Some(0), None],
+    ),
+    (
+        Prim::Nand,
+        (1, 1, 1),
+        (Some(0), None, Some(1)),
+        false,
+        [None, None, None],
+    ),
+    (
+        Prim::Nor,
+        (4, 4, 4),
+        (Some(15), None, None),
+        false,
+        [None, None, Some(0)],
+    ),
+    (
+        Prim::Nor,
+        (4, 4, 4),
+        (None, None, Some(15)),
+        false,
+        [Some(0), Some(0), None],
+    ),
+    (
+        Prim::Or,
+        (4, 4, 4),
+        (Some(8), None, Some(4)),
+        true,
+        [None, None, None],
+    ),
+    (
+        Prim::Xnor,
+        (4, 4, 4),
+        (Some(5), None, Some(15)),
+        false,
+        [None, Some(5), None],
+    ),
+    (
+        Prim::Add,
+        (1, 1, 1),
+        (Some(1), Some(1), None),
+        false,
+        [None, None, Some(0)],
+    ),
+    (
+        Prim::Add,
+        (32, 32, 32),
+        (Some(4294967295), None, Some(0)),
+        false,
+        [None, Some(1), None],
+    ),
+    (
+        Prim::Mul,
+        (4, 4, 8),
+        (Some(15), Some(15), None),
+        false,
+        [None, None, Some(225)],
+    ),
+    (
+        Prim::Mul,
+        (4, 4, 8),
+        (Some(3), None, Some(4)),
+        true,
+        [None, None, None],
+    ),
+    (
+        Prim::Mul,
+        (4, 4, 8),
+        (Some(1), None, Some(16)),
+        true,
+        [None, None, None],
+    ),
+    (
+        Prim::Mul,
+        (16, 16, 32),
+        (Some(65535), None, Some(4294836225)),
+        false,
+        [None, Some(65535), None],
+    ),
+];
+
+const OTHER_KINDS_AND_PORTS: [Row; 12] = [
+    (
+        Prim::Buf,
+        (4, 4, 4),
+        (Some(9), None, None),
+        false,
+        [None, Some(9), None],
+    ),
+    (
+        Prim::Not,
+        (4, 4, 4),
+        (None, Some(9), None),
+        false,
+        [Some(6), None, None],
+    ),
+    (
+        Prim::Const { value: 9 },
+        (4, 4, 4),
+        (None, None, None),
+        false,
+        [Some(9), None, None],
+    ),
+    (
+        Prim::And,
+        (4, 4, 4),
+        (Some(6), None, Some(4)),
+        false,
+        [None, None, None],
+    ),
+    (
+        Prim::And,
+        (4, 4, 4),
+        (None, Some(15), Some(4)),
+        false,
+        [Some(4), None, None],
+    ),
+    (
+        Prim::Or,
+        (4, 4, 4),
+        (Some(6), Some(9), None),
+        false,
+        [None, None, Some(15)],
+    ),
+    (
+        Prim::Xor,
+        (4, 4, 4),
+        (None, Some(6), Some(9)),
+        false,
+        [Some(15), None, None],
+    ),
+    (
+        Prim::Xor,
+        (4, 4, 4),
+        (None, Some(6), None),
+        false,
+        [None, None, None],
+    ),
+    (
+        Prim::Mul,
+        (4, 4, 8),
+        (None, Some(0), None),
+        false,
+        [None, None, Some(0)],
+    ),
+    (
+        Prim::Mul,
+        (4, 4, 8),
+        (None, Some(0), Some(5)),
+        true,
+        [None, None, None],
+    ),
+    (
+        Prim::Mul,
+        (4, 4, 8),
+        (Some(0), None, Some(0)),
+        false,
+        [None, None, None],
+    ),
+    (
+        Prim::Mul,
+        (4, 4, 8),
+        (None, None, Some(0)),
+        false,
+        [None, None, None],
+    ),
+];
+
+fn assert_rows(rt: &impl Abort, rows: &[Row]) {
+    for (prim, bits, known, refuted, forced) in rows {
+        let inference = inferred(rt, *prim, *bits, *known);
+        assert_eq!(rt; inference.refuted, *refuted, "{prim:?} {known:?}");
+        assert_eq!(rt; inference.forced, *forced, "{prim:?} {known:?}");
     }
 }
 
 #[test]
+fn words_at_the_ends(rt: HostRuntime) {
+    assert_rows(&rt, &AT_THE_ENDS);
+}
+
+#[test]
 fn other_kinds_and_ports(rt: HostRuntime) {
-    let four = (4, 4, 4);
-    let table = [
-        (
-            Prim::Buf,
-            four,
-            (Some(9), None, None),
-            false,
-            [None, Some(9), None],
-        ),
-        (
-            Prim::Not,
-            four,
-            (None, Some(9), None),
-            false,
-            [Some(6), None, None],
-        ),
-        (
-            Prim::Const { value: 9 },
-            four,
-            (None, None, None),
-            false,
-            [Some(9), None, None],
-        ),
-        (
-            Prim::And,
-            four,
-            (Some(6), None, Some(4)),
-            false,
-            [None, None, None],
-        ),
-        (
-            Prim::And,
-            four,
-            (None, Some(15), Some(4)),
-            false,
-            [Some(4), None, None],
-        ),
-        (
-            Prim::Or,
-            four,
-            (Some(6), Some(9), None),
-            false,
-            [None, None, Some(15)],
-        ),
-        (
-            Prim::Xor,
-            four,
-            (None, Some(6), Some(9)),
-            false,
-            [Some(15), None, None],
-        ),
-        (
-            Prim::Xor,
-            four,
-            (None, Some(6), None),
-            false,
-            [None, None, None],
-        ),
-        (
-            Prim::Mul,
-            (4, 4, 8),
-            (None, Some(0), None),
-            false,
-            [None, None, Some(0)],
-        ),
-        (
-            Prim::Mul,
-            (4, 4, 8),
-            (None, Some(0), Some(5)),
-            true,
-            [None, None, None],
-        ),
-        (
-            Prim::Mul,
-            (4, 4, 8),
-            (Some(0), None, Some(0)),
-            false,
-            [None, None, None],
-        ),
-        (
-            Prim::Mul,
-            (4, 4, 8),
-            (None, None, Some(0)),
-            false,
-            [None, None, None],
-        ),
-    ];
-    for (prim, bits, known, refuted, forced) in table {
-        let inference = inferred(&rt, prim, bits, known);
-        assert_eq!(rt; inference.refuted, refuted, "{prim:?} {known:?}");
-        assert_eq!(rt; inference.forced, forced, "{prim:?} {known:?}");
-    }
+    assert_rows(&rt, &OTHER_KINDS_AND_PORTS);
 }

@@ -1,33 +1,37 @@
--- How an assumption begins, and how it is taken back.
-use Rattle.std.proofs.Common.{◌≡◌, ◌≢◌, ℕ, zero, ◌⊎◌, inl, inr, Bool, true, false, ◌==◌, cond, IsTrue, IsFalse, true≢false, refl, sym, ap, subst, ◌∙◌, ◌↔◌, List, [], ◌∷◌, ◌++◌, length, take, drop, Option, Some, None, IsSome, Result, Ok, Err, IfErr, arith}
-use Rattle.std.specs.List.{find}
+-- The stock without the slot, and what begins an assumption at the slot.
+use Rattle.std.proofs.Common.{◌≡◌, ◌≢◌, ℕ, zero, ◌⊎◌, inl, inr, Bool, true, false, ◌==◌, cond, IsTrue, IsFalse, true≢false, refl, sym, ap, subst, ◌∙◌, List, [], ◌∷◌, ◌++◌, map, filter, Option, Some, None, IsSome, append_assoc, append-nil, ◌+◌, ◌<◌, length, take, get_or, arith}
+use Rattle.std.specs.Option.{option_or, is_none}
 use Rattle.std.proofs.lemmas.Bool.Decides.{nat_tests}
-use Rattle.std.proofs.lemmas.List.{take-append-drop, take-map, length-map}
-use Rattle.std.proofs.Math.Seq.{take-append_seam}
+use Rattle.std.proofs.lemmas.List.{take_more}
 use Rattle.circuit_model.specs.declared.model.Fact.{Fact}
+use Rattle.circuit_model.specs.declared.model.Instance.{Instance}
 use Rattle.circuit_model.specs.declared.model.Assumption.{Assumption}
-use Rattle.circuit_model.specs.declared.model.Assumption.TheVariants.{Reading}
-use Rattle.circuit_model.specs.Stock.{IsEnvironment}
-use Rattle.circuit_model.specs.Settled.{IsCovered, IsSettled}
+use Rattle.circuit_model.specs.declared.model.Assumption.TheVariants.{Part, Reading}
+use Rattle.circuit_model.specs.Stock.{Stock, IsEnvironment, Has}
+use Rattle.circuit_model.specs.Settled.{IsCovered}
 use Rattle.circuit_model.specs.Laws.{HasOneMore}
 use Rattle.environment_sets.specs.declared.environment.Env.{Env}
-use Rattle.environment_sets.specs.Sets.{Set, only}
+use Rattle.environment_sets.specs.Sets.{Set, ◌⊆◌, only}
 use Rattle.environment_sets.specs.Members.{members, HasMember}
 use Rattle.environment_sets.specs.Lists.{IsIn}
-use Rattle.antichains.specs.Families.{Drops}
-use Rattle.propagation.specs.Propagating.{Target, Inference, HasAt, Leads, AreRecorded, IsPropagating}
-use Rattle.propagation.proofs.Start.{NoItem, start_reading}
+use Rattle.propagation.specs.Propagating.{Target, Inference, HasAt, Leads, HasMaker, AreChosen, SomeWaits, IsDue, IsSound, AreRecorded, IsPendingSound, IsWaitingSound, IsPropagating}
+use Rattle.propagation.proofs.Start.{NoItem, start_reading, start_part, choice_reached, sound_of_settled}
+use Rattle.propagation.proofs.Entry.{leads_more, sound_more}
+use Rattle.propagation.proofs.Unions.{leads_on}
 use Rattle.propagation.proofs.Whole as whole
-use Rattle.propagation.proofs.Alike.{settled_alike, leads_less, recorded_more}
 use Rattle.label_engine.specs.declared.labels.Node.{Node}
 use Rattle.label_engine.specs.declared.labels.Due.{Due}
+use Rattle.label_engine.specs.declared.work.Item.{Item}
 use Rattle.label_engine.specs.declared.work.Work.{Work}
-use Rattle.label_engine.specs.Labels.{is_same, facts_of, envs_of, label_of, KeptIn, EachDrops}
-use Rattle.label_engine.specs.Work.{stock, before, facts, DueIn, RecordedIn, WaitsIn, Holds, Survives, IsExactBefore, IsTakenBack}
-use Rattle.label_engine.proofs.Nodes.{is_at, same_fact, fact_same_of, dropped_label, dropped_facts}
-use Rattle.label_engine.proofs.Families.{in_front, in_either}
+use Rattle.label_engine.specs.Labels.{facts_of, label_of, KeptIn}
+use Rattle.label_engine.specs.Work.{before, DueIn, WaitsIn, Holds, IsExactBefore, some_fact, goes_from_none, due_with, item_at, items_with, items_from}
+use Rattle.inference_search.specs.declared.inferred.Inferred.{Inferred}
+use Rattle.inference_search.specs.Slots.{stock}
+use Rattle.inference_search.specs.Inferences.{facts, inference, RecordedIn}
+use Rattle.inference_search.specs.Found.{AreMadeBy}
+use Rattle.label_engine.proofs.Families.{in_front, in_back, in_either, in_map, of_map, in_filter, of_filter}
 
-decide : (slot k : ℕ) → (k ≡ slot) ⊎ (k ≢ slot)
+pub decide : (slot k : ℕ) → (k ≡ slot) ⊎ (k ≢ slot)
 decide slot k =
     elim (k == slot) as (λ b. (k == slot) ≡ b → (k ≡ slot) ⊎ (k ≢ slot)) [
       | true ↦ λ e. inl (grind (arith, nat_tests))
@@ -35,7 +39,7 @@ decide slot k =
     ] refl
 
 module _ (slots : List (Option Assumption)) (slot : ℕ) where
-  one_more_slot : HasOneMore ℕ (before slots slot) (stock slots) slot
+  pub one_more_slot : HasOneMore ℕ (before slots slot) (stock slots) slot
   one_more_slot = (part, rest)
     where
       part : (k : ℕ) (a : Assumption) → before slots slot k ≡ Some a → stock slots k ≡ Some a
@@ -48,7 +52,7 @@ module _ (slots : List (Option Assumption)) (slot : ℕ) where
       rest : (k : ℕ) (a : Assumption) → k ≢ slot → stock slots k ≡ Some a → before slots slot k ≡ Some a
       rest k a ne e = let out : (k == slot) ≡ false = grind (arith, nat_tests) in rw out e
 
-  lacks : (E : Set ℕ) → IsEnvironment (before slots slot) E → IsFalse (E slot)
+  pub lacks : (E : Set ℕ) → IsEnvironment (before slots slot) E → IsFalse (E slot)
   lacks E env =
       elim (E slot) as (λ b. E slot ≡ b → b ≡ false) [
         | true ↦ λ inside. absurd (
@@ -59,139 +63,263 @@ module _ (slots : List (Option Assumption)) (slot : ℕ) where
         | false ↦ λ _. refl
       ] refl
 
--- a label is that of the first nodes, where the fact is one of theirs
-label_front : (xs ys : List Node) (f : Fact) → IsIn (facts_of xs) f → label_of (xs ++ ys) f ≡ label_of xs f
-label_front [] ys f h = absurd h
-label_front (x ∷ xs) ys f h =
-    elim (is_same x.fact f) as (λ b. is_same x.fact f ≡ b → envs_of (cond b (Some x) (find (is_at f) (xs ++ ys))) ≡ envs_of (cond b (Some x) (find (is_at f) xs))) [
-      | true ↦ λ _. refl
-      | false ↦ λ out. elim h [
-        | inl e ↦ absurd (true≢false (sym (fact_same_of x.fact f e) ∙ out))
-        | inr later ↦ label_front xs ys f later
-      ]
-    ] refl
+-- the items with which the inferences begin: each environment of one of the facts of each
+pub in_items : (nodes : List Node) (is : List Inferred) (i : Inferred) (f : Fact) (E : Set ℕ) → IsIn is i → some_fact i ≡ Some f → HasMember (label_of nodes f) E → (x : Item) × IsIn (items_from nodes is) x × (x.inferred ≡ i) × (x.at ≡ f) × (members x.env ≡ E)
+in_items nodes [] i f E h e k = absurd h
+in_items nodes (j ∷ is) i f E (inl same) e k =
+    let env : (env : Env) × IsIn (label_of nodes f) env × (members env ≡ E) = of_map members (label_of nodes f) E k in
+    let x : Item = item_at f env.0 i in
+    let at : some_fact j ≡ Some f = ap some_fact same ∙ e in
+    let here : IsIn (items_with nodes j (Some f)) x = (let P : Inferred → Type 0 = λ y. IsIn (items_with nodes y (Some f)) x in subst P (sym same) (in_map (λ d. item_at f d i) (label_of nodes f) env.0 env.1)) in
+    let P : Option Fact → Type 0 = λ o. IsIn (items_with nodes j o ++ items_from nodes is) x in
+    (x, subst P (sym at) (in_front (items_with nodes j (Some f)) (items_from nodes is) x here), refl, refl, env.2)
+in_items nodes (j ∷ is) i f E (inr later) e k =
+    let r : (x : Item) × IsIn (items_from nodes is) x × (x.inferred ≡ i) × (x.at ≡ f) × (members x.env ≡ E) = in_items nodes is i f E later e k in
+    (r.0, in_back (items_with nodes j (some_fact j)) (items_from nodes is) r.0 r.1, r.2, r.3, r.4)
 
-label_take : (n : ℕ) (nodes : List Node) (f : Fact) → IsIn (facts_of (take n nodes)) f → label_of nodes f ≡ label_of (take n nodes) f
-label_take n nodes f h = let P : List Node → Type 0 = λ l. label_of l f ≡ label_of (take n nodes) f in subst P (take-append-drop n nodes) (label_front (take n nodes) (drop n nodes) f h)
+-- what an item of the list is
+pub record IsItemFrom (nodes : List Node) (is : List Inferred) (x : Item) : Type 0 where
+  pub found : IsIn is x.inferred
+  pub at_fact : some_fact x.inferred ≡ Some x.at
+  pub kept : HasMember (label_of nodes x.at) (members x.env)
 
--- a fact with an environment was met
-member_met : (nodes : List Node) (f : Fact) (E : Set ℕ) → HasMember (label_of nodes f) E → IsIn (facts_of nodes) f
-member_met [] f E h = absurd h
-member_met (n ∷ nodes) f E h =
-    elim (is_same n.fact f) as (λ b. is_same n.fact f ≡ b → HasMember (envs_of (cond b (Some n) (find (is_at f) nodes))) E → IsIn (facts_of (n ∷ nodes)) f) [
-      | true ↦ λ is _. inl (same_fact n.fact f is)
-      | false ↦ λ _ k. inr (member_met nodes f E k)
-    ] refl h
+of_items_with : (nodes : List Node) (i : Inferred) (o : Option Fact) (x : Item) → some_fact i ≡ o → IsIn (items_with nodes i o) x → IsItemFrom nodes (i ∷ []) x
+of_items_with nodes i None x e h = absurd h
+of_items_with nodes i (Some f) x e h =
+    let env : (env : Env) × IsIn (label_of nodes f) env × (item_at f env i ≡ x) = of_map (λ d. item_at f d i) (label_of nodes f) x h in
+    let P : Item → Type 0 = λ y. IsItemFrom nodes (i ∷ []) y in
+    subst P env.2 (record { found = inl refl; at_fact = e; kept = in_map members (label_of nodes f) env.0 env.1 })
 
-module _ (slots : List (Option Assumption)) (w : Work) (f : Fact) (reads : stock slots w.slot ≡ Some (Reading f)) (exact : IsExactBefore slots w) where
-  more : HasOneMore ℕ (before slots w.slot) (stock slots) w.slot
+pub of_items : (nodes : List Node) (is : List Inferred) (x : Item) → IsIn (items_from nodes is) x → IsItemFrom nodes is x
+of_items nodes [] x h = absurd h
+of_items nodes (i ∷ is) x h =
+    elim (in_either (items_with nodes i (some_fact i)) (items_from nodes is) x h) [
+      | inl a ↦
+          let r : IsItemFrom nodes (i ∷ []) x = of_items_with nodes i (some_fact i) x refl a in
+          record { found = in_front (i ∷ []) is x.inferred r.found; at_fact = r.at_fact; kept = r.kept }
+      | inr b ↦
+          let r : IsItemFrom nodes is x = of_items nodes is x b in
+          record { found = inr r.found; at_fact = r.at_fact; kept = r.kept }
+    ]
+
+items_from-append : (nodes : List Node) (is js : List Inferred) → items_from nodes (is ++ js) ≡ items_from nodes is ++ items_from nodes js
+items_from-append nodes [] js = refl
+items_from-append nodes (i ∷ is) js = ap (λ l. items_with nodes i (some_fact i) ++ l) (items_from-append nodes is js) ∙ sym (append_assoc (items_with nodes i (some_fact i)) (items_from nodes is) (items_from nodes js))
+
+-- one inference more
+pub items_from-more :
+    (nodes : List Node) (found : List Inferred) (n : ℕ) (d : Inferred) (start old new : List Item) → n < length found → old ≡ start ++ items_from nodes (take n found)
+    → new ≡ old ++ items_with nodes (get_or found n d) (some_fact (get_or found n d)) → new ≡ start ++ items_from nodes (take (n + 1) found)
+items_from-more nodes found n d start old new low so_far then =
+    let i : Inferred = get_or found n d in
+    let front : items_from nodes (take (n + 1) found) ≡ items_from nodes (take n found) ++ items_with nodes i (some_fact i) =
+    ap (items_from nodes) (take_more found n d low) ∙ (items_from-append nodes (take n found) (i ∷ []) ∙ ap (λ l. items_from nodes (take n found) ++ l) (append-nil (items_with nodes i (some_fact i)))) in
+    then ∙ (ap (λ l. l ++ items_with nodes i (some_fact i)) so_far ∙ (append_assoc start (items_from nodes (take n found)) (items_with nodes i (some_fact i)) ∙ ap (λ l. start ++ l) (sym front)))
+
+-- the fact that is looked at is one that the inference goes from
+some_is_of : (a b : Option Fact) (f : Fact) → option_or a b ≡ Some f → IsIn (facts a b) f
+some_is_of (Some a) None f e = inl (let x : a ≡ f = cc in x)
+some_is_of (Some a) (Some b) f e = inl (let x : a ≡ f = cc in x)
+some_is_of None (Some b) f e = inl (let x : b ≡ f = cc in x)
+some_is_of None None f e = absurd (cc)
+
+-- the set of the slot alone
+module _ (slots : List (Option Assumption)) (slot : ℕ) (env : Env) (is : members env ≡ only slot) where
+  slot_only : (k : ℕ) → IsTrue (members env k) → k ≡ slot
+  slot_only k h = let same : IsTrue (k == slot) = sym (ap (λ (F : Set ℕ). F k) is) ∙ h in grind (arith, nat_tests)
+
+  slot_inside : IsTrue (members env slot)
+  slot_inside = ap (λ (F : Set ℕ). F slot) is ∙ (let same : IsTrue (slot == slot) = grind (arith, nat_tests) in same)
+
+  only_environment : IsSome (stock slots slot) → IsEnvironment (stock slots) (members env)
+  only_environment there k h = let P : ℕ → Type 0 = λ i. IsSome (stock slots i) in subst P (sym (slot_only k h)) there
+
+  only_inside : (E : Set ℕ) → IsTrue (E slot) → members env ⊆ E
+  only_inside E h k i = let P : ℕ → Type 0 = λ x. IsTrue (E x) in subst P (sym (slot_only k i)) h
+
+  only_maker : HasMaker (Some slot) (members env)
+  only_maker k e = let same : slot ≡ k = cc in let P : ℕ → Type 0 = λ x. IsTrue (members env x) in subst P same slot_inside
+
+module _ (slots : List (Option Assumption)) (w : Work) (exact : IsExactBefore slots w) (env : Env) (is : members env ≡ only w.slot) where
+  abbrev S : Stock ℕ
+  S = before slots w.slot
+
+  abbrev Alive : Fact → Type 0
+  Alive = IsIn (facts_of w.labels.nodes.items)
+
+  abbrev Old : Inference → Type 0
+  Old = RecordedIn w.recorded.items
+
+  more : HasOneMore ℕ S (stock slots) w.slot
   more = one_more_slot slots w.slot
 
-  kept_lacks : (t : Target) (E : Set ℕ) → KeptIn w.labels t E → IsFalse (E w.slot)
-  kept_lacks None E k = lacks slots w.slot E (exact.settled.nogood_environments E k)
-  kept_lacks (Some g) E k = lacks slots w.slot E (exact.settled.environments g E k)
+  -- a reading: its own environment is due
+  module _ (f : Fact) (reads : stock slots w.slot ≡ Some (Reading f)) where
+    abbrev First : Due
+    First = record { target = Some f; env = env }
 
-  module _ (first : Due) (at : first.target ≡ Some f) (is : members first.env ≡ only w.slot) where
-    slot_only : (k : ℕ) → IsTrue (members first.env k) → k ≡ w.slot
-    slot_only k h = let same : IsTrue (k == w.slot) = sym (ap (λ (F : Set ℕ). F k) is) ∙ h in grind (arith, nat_tests)
+    first_environment : IsEnvironment (stock slots) (members env)
+    first_environment = only_environment slots w.slot env is (rw reads refl)
 
-    slot_inside : IsTrue (members first.env w.slot)
-    slot_inside = ap (λ (F : Set ℕ). F w.slot) is ∙ (let same : IsTrue (w.slot == w.slot) = grind (arith, nat_tests) in same)
+    first_has : HasAt (stock slots) (Some f) (members env)
+    first_has = (zero, record { name = w.slot; chosen = slot_inside slots w.slot env is; named = reads })
 
-    first_environment : IsEnvironment (stock slots) (members first.env)
-    first_environment k h = let P : ℕ → Type 0 = λ i. IsSome (stock slots i) in subst P (sym (slot_only k h)) (rw reads refl)
-
-    first_has : HasAt (stock slots) (Some f) (members first.env)
-    first_has = (zero, record { name = w.slot; chosen = slot_inside; named = reads })
-
-    due_environment : (t : Target) (E : Set ℕ) → DueIn (first ∷ []) t E → IsEnvironment (stock slots) E
+    due_environment : (t : Target) (E : Set ℕ) → DueIn (First ∷ []) t E → IsEnvironment (stock slots) E
     due_environment t E (k, inl e, a, b) = subst (IsEnvironment (stock slots)) (ap (λ (x : Due). members x.env) e ∙ b) first_environment
     due_environment t E (k, inr bad, a, b) = absurd bad
 
-    due_has : (t : Target) (E : Set ℕ) → DueIn (first ∷ []) t E → HasAt (stock slots) t E
+    due_has : (t : Target) (E : Set ℕ) → DueIn (First ∷ []) t E → HasAt (stock slots) t E
     due_has t E (k, inl e, a, b) =
-        let same : Some f ≡ t = sym at ∙ (ap (λ (x : Due). x.target) e ∙ a) in
+        let same : Some f ≡ t = ap (λ (x : Due). x.target) e ∙ a in
         let P : Set ℕ → Type 0 = λ F. HasAt (stock slots) t F in
-        let Q : Target → Type 0 = λ s. HasAt (stock slots) s (members first.env) in
+        let Q : Target → Type 0 = λ s. HasAt (stock slots) s (members env) in
         subst P (ap (λ (x : Due). members x.env) e ∙ b) (subst Q same first_has)
     due_has t E (k, inr bad, a, b) = absurd bad
 
-    alone : (E : Set ℕ) → IsTrue (E w.slot) → IsCovered (DueIn (first ∷ []) (Some f)) E
-    alone E h = (members first.env, (first, inl refl, at, refl), λ k i. let P : ℕ → Type 0 = λ x. IsTrue (E x) in subst P (sym (slot_only k i)) h)
+    alone : (E : Set ℕ) → IsTrue (E w.slot) → IsCovered (DueIn (First ∷ []) (Some f)) E
+    alone E h = (members env, (First, inl refl, refl, refl), only_inside slots w.slot env is E h)
 
-    pub begins : Holds slots w.slot w.labels w.recorded.items (first ∷ []) []
-    begins =
-        let was : IsPropagating (stock slots) w.slot (IsIn (facts_of w.labels.nodes.items)) (KeptIn w.labels) (RecordedIn w.recorded.items) (DueIn (first ∷ [])) NoItem =
-        start_reading (before slots w.slot) (stock slots) w.slot more (decide w.slot) (IsIn (facts_of w.labels.nodes.items)) (KeptIn w.labels) (RecordedIn w.recorded.items) exact.settled exact.are exact.lives (DueIn (first ∷ []))
+    first_due : Holds slots w.slot w.labels w.recorded.items (First ∷ []) []
+    first_due =
+        let was : IsPropagating (stock slots) w.slot Alive (KeptIn w.labels) Old (DueIn (First ∷ [])) NoItem =
+        start_reading S (stock slots) w.slot more (decide w.slot) Alive (KeptIn w.labels) Old exact.settled exact.are exact.lives (DueIn (First ∷ []))
         (record { environments = due_environment; sound = due_has }) f reads alone in
-        whole.reordered (stock slots) w.slot (IsIn (facts_of w.labels.nodes.items)) (KeptIn w.labels) (RecordedIn w.recorded.items) (DueIn (first ∷ [])) NoItem was (DueIn (first ∷ [])) (WaitsIn [])
-        (λ t E. ((λ (k : DueIn (first ∷ []) t E). k), (λ (k : DueIn (first ∷ []) t E). k))) (λ j g m. ((λ (h : ⊥). absurd h), (λ (h : WaitsIn [] j g m). h.1)))
+        whole.reordered (stock slots) w.slot Alive (KeptIn w.labels) Old (DueIn (First ∷ [])) NoItem was (DueIn (First ∷ [])) (WaitsIn [])
+        (λ t E. ((λ (k : DueIn (First ∷ []) t E). k), (λ (k : DueIn (First ∷ []) t E). k))) (λ j g m. ((λ (h : ⊥). absurd h), (λ (h : WaitsIn [] j g m). h.1)))
 
-  module _
-      (mid new : Work) (s : Survives slots w mid) (met : ℕ) (met_is : met ≡ length w.labels.nodes.items)
-      (labels_new : EachDrops (λ F. IsTrue (F mid.slot)) (take met mid.labels.nodes.items) new.labels.nodes.items) (nogoods_new : Drops (HasMember mid.labels.nogoods) (HasMember new.labels.nogoods) (λ F. IsTrue (F mid.slot)))
-      (recorded_new : new.recorded.items ≡ mid.recorded.items) (due_new : new.due.items ≡ []) (agenda_new : new.agenda ≡ []) (slot_new : new.slot ≡ mid.slot)
-    where
-      abbrev Front : List Node
-      Front = take met mid.labels.nodes.items
+    pub reading_begins : (dues : List Due) → dues ≡ w.due.items ++ First ∷ [] → Holds slots w.slot w.labels w.recorded.items dues w.agenda
+    reading_begins dues e = rw (e, exact.none_due, exact.nothing_waits) first_due
 
-      front_facts : facts_of Front ≡ facts_of w.labels.nodes.items
-      front_facts =
-          let long : met ≡ length (facts_of w.labels.nodes.items) = met_is ∙ sym (length-map w.labels.nodes.items (λ (n : Node). n.fact)) in
-          sym (take-map (λ (n : Node). n.fact) met mid.labels.nodes.items) ∙ (ap (λ l. take met l) s.alive ∙ (ap (λ n. take n (facts_of w.labels.nodes.items ++ s.born)) long ∙ take-append_seam (facts_of w.labels.nodes.items) s.born))
+  -- a component: its inferences are recorded, and what they lead to is due or waits
+  module _ (part : List Instance) (works : stock slots w.slot ≡ Some (Part part)) (found : List Inferred) (made : AreMadeBy slots (facts_of w.labels.nodes.items) w.slot found) where
+    abbrev New : List Inferred
+    New = w.recorded.items ++ found
 
-      alive_same : facts_of new.labels.nodes.items ≡ facts_of w.labels.nodes.items
-      alive_same = dropped_facts (λ F. IsTrue (F mid.slot)) Front new.labels.nodes.items labels_new ∙ front_facts
+    abbrev Dues : List Due
+    Dues = map (due_with env) (filter goes_from_none found)
 
-      not_there : (E : Set ℕ) → IsFalse (E w.slot) → IsTrue (E mid.slot) → ⊥
-      not_there E out h = true≢false (sym h ∙ (ap E s.same_slot ∙ out))
+    abbrev Items : List Item
+    Items = items_from w.labels.nodes.items found
 
-      out_of : (E : Set ℕ) → (IsTrue (E mid.slot) → ⊥) → IsFalse (E w.slot)
-      out_of E lacking = elim (E w.slot) as (λ b. E w.slot ≡ b → b ≡ false) [ true ↦ λ inside. absurd (lacking (ap E s.same_slot ∙ inside)) | false ↦ λ _. refl ] refl
+    front : (j : Inference) → Old j → RecordedIn New j
+    front j r = (r.0, in_front w.recorded.items found r.0 r.1, r.2)
 
-      to : (t : Target) (E : Set ℕ) → KeptIn w.labels t E → KeptIn new.labels t E
-      to None E k = (nogoods_new E).1 ((s.agrees None E (kept_lacks None E k)).0 k, not_there E (kept_lacks None E k))
-      to (Some g) E k =
-          let there : IsIn (facts_of Front) g = (let P : List Fact → Type 0 = λ l. IsIn l g in subst P (sym front_facts) (exact.lives g E k)) in
-          let P : List Env → Type 0 = λ l. HasMember l E in
-          (dropped_label (λ F. IsTrue (F mid.slot)) Front new.labels.nodes.items g labels_new E).1 (subst P (label_take met mid.labels.nodes.items g there) ((s.agrees (Some g) E (kept_lacks (Some g) E k)).0 k), not_there E (kept_lacks (Some g) E k))
+    back : (j : Inference) → RecordedIn found j → RecordedIn New j
+    back j r = (r.0, in_back w.recorded.items found r.0 r.1, r.2)
 
-      from : (t : Target) (E : Set ℕ) → KeptIn new.labels t E → KeptIn w.labels t E
-      from None E k = let m = (nogoods_new E).0 k in (s.agrees None E (out_of E m.1)).1 m.0
-      from (Some g) E k =
-          let m = (dropped_label (λ F. IsTrue (F mid.slot)) Front new.labels.nodes.items g labels_new E).0 k in
-          let P : List Env → Type 0 = λ l. HasMember l E in
-          (s.agrees (Some g) E (out_of E m.1)).1 (subst P (sym (label_take met mid.labels.nodes.items g (member_met Front g E m.0))) m.0)
+    split : (j : Inference) → RecordedIn New j → Old j ⊎ RecordedIn found j
+    split j r = elim (in_either w.recorded.items found r.0 r.1) [ inl o ↦ inl (r.0, o, r.2) | inr n ↦ inr (r.0, n, r.2) ]
 
-      same_left : (t : Target) (E : Set ℕ) → KeptIn w.labels t E ↔ KeptIn new.labels t E
-      same_left t E = (to t E, from t E)
+    here : (k : ℕ) (p : List Instance) → k ≡ w.slot → stock slots k ≡ Some (Part p) → stock slots w.slot ≡ Some (Part p)
+    here k p e named = let P : ℕ → Type 0 = λ i. stock slots i ≡ Some (Part p) in subst P e named
 
-      leads_before : (j : Inference) → RecordedIn (w.recorded.items ++ s.added) j → Leads (before slots w.slot) j.from j.maker j.to
-      leads_before j r =
-          elim (in_either w.recorded.items s.added r.0 r.1) [
-            | inl o ↦ exact.are.leads j (r.0, o, r.2)
-            | inr n ↦ let P : Inference → Type 0 = λ i. Leads (before slots w.slot) i.from i.maker i.to in subst P r.2 (leads_less (before slots w.slot) (stock slots) w.slot more f reads (decide w.slot) (facts r.0.first r.0.second) r.0.maker r.0.to (s.lead r.0 n))
-          ]
+    now_recorded : AreRecorded (stock slots) Alive (RecordedIn New)
+    now_recorded = record {
+      leads = λ j r. elim (split j r) [
+        | inl o ↦ leads_more S (stock slots) w.slot more j.from j.maker j.to (exact.are.leads j o)
+        | inr n ↦ let P : Inference → Type 0 = λ i. Leads (stock slots) i.from i.maker i.to in subst P n.2 (made.leads n.0 n.1)
+      ];
+      forced = λ k p instance known q v c named of_part held at forces. elim (decide w.slot k) [
+        | inl e ↦ let j = made.forced p instance known q v c (here k p e named) of_part held at forces in (j.0, back j.0 j.1, j.2, j.3 ∙ ap (λ (x : ℕ). Some x) (sym e), j.4)
+        | inr ne ↦ let j = exact.are.forced k p instance known q v c (more.1 k (Part p) ne named) of_part held at forces in (j.0, front j.0 j.1, j.2, j.3, j.4)
+      ];
+      refuted = λ k p instance known named of_part held refutes. elim (decide w.slot k) [
+        | inl e ↦ let j = made.refuted p instance known (here k p e named) of_part held refutes in (j.0, back j.0 j.1, j.2, j.3 ∙ ap (λ (x : ℕ). Some x) (sym e), j.4)
+        | inr ne ↦ let j = exact.are.refuted k p instance known (more.1 k (Part p) ne named) of_part held refutes in (j.0, front j.0 j.1, j.2, j.3, j.4)
+      ];
+      two_words = λ c v x differ low high. let j = exact.are.two_words c v x differ low high in (j.0, front j.0 j.1, j.2, j.3, j.4);
+    }
 
-      recorded_before : AreRecorded (before slots w.slot) (IsIn (facts_of w.labels.nodes.items)) (RecordedIn (w.recorded.items ++ s.added))
-      recorded_before = recorded_more (before slots w.slot) (IsIn (facts_of w.labels.nodes.items)) (RecordedIn w.recorded.items) (RecordedIn (w.recorded.items ++ s.added)) exact.are (λ j r. (r.0, in_front w.recorded.items s.added r.0 r.1, r.2)) leads_before
+    now_made : (j : Inference) → RecordedIn New j → Old j ⊎ (j.maker ≡ Some w.slot)
+    now_made j r = elim (split j r) [ inl o ↦ inl o | inr n ↦ inr (sym (ap (λ (i : Inference). i.maker) n.2) ∙ made.maker n.0 n.1) ]
 
-      settled_before : IsSettled (before slots w.slot) (λ g. KeptIn new.labels (Some g)) (KeptIn new.labels None)
-      settled_before = settled_alike (before slots w.slot) (KeptIn w.labels) (KeptIn new.labels) same_left exact.settled
+    sound_now : IsSound (stock slots) (KeptIn w.labels)
+    sound_now = sound_more S (stock slots) w.slot more (KeptIn w.labels) (sound_of_settled S (KeptIn w.labels) exact.settled)
 
-      pub taken : IsTakenBack slots w new
-      taken = record {
-        exact = record {
-          settled = (let P : ℕ → Type 0 = λ n. IsSettled (before slots n) (λ g. KeptIn new.labels (Some g)) (KeptIn new.labels None) in subst P (sym (slot_new ∙ s.same_slot)) settled_before);
-          are = rw (alive_same, recorded_new ∙ s.recorded, slot_new ∙ s.same_slot) recorded_before;
-          lives = λ g E k. rw alive_same (exact.lives g E (from (Some g) E k));
-          none_due = due_new;
-          nothing_waits = agenda_new;
-        };
-        same = same_left;
-        same_slot = slot_new ∙ s.same_slot;
-      }
+    waiting : IsWaitingSound (stock slots) (RecordedIn New) (WaitsIn Items)
+    waiting = record {
+      inference = λ j f E x. (x.0.inferred, in_back w.recorded.items found x.0.inferred (of_items w.labels.nodes.items found x.0 x.1).found, x.2);
+      antecedent = λ j f E x.
+          let it : IsItemFrom w.labels.nodes.items found x.0 = of_items w.labels.nodes.items found x.0 x.1 in
+          let P : Inference → Type 0 = λ i. IsIn i.from f in
+          subst P x.2 (subst (IsIn (facts x.0.inferred.first x.0.inferred.second)) x.3 (some_is_of x.0.inferred.first x.0.inferred.second x.0.at it.at_fact));
+      environment = λ j f E x. subst (IsEnvironment (stock slots)) x.4 (sound_now.environments (Some x.0.at) (members x.0.env) (of_items w.labels.nodes.items found x.0 x.1).kept);
+      sound = λ j f E x.
+          let P : Set ℕ → Type 0 = λ F. Has (stock slots) f F in
+          let Q : Fact → Type 0 = λ g. Has (stock slots) g (members x.0.env) in
+          subst P x.4 (subst Q x.3 (sound_now.sound (Some x.0.at) (members x.0.env) (of_items w.labels.nodes.items found x.0 x.1).kept));
+    }
 
-pub IfErr-always : {A E Q : Type 0} → (r : Result A E) → Q → IfErr r (λ _. Q)
-IfErr-always (Ok x) q = tt
-IfErr-always (Err e) q = q
+    -- what is due at once: the target of an inference from no fact
+    due_of : (d : Due) → IsIn Dues d → (i : Inferred) × IsIn found i × IsTrue (goes_from_none i) × (due_with env i ≡ d)
+    due_of d h =
+        let i : (i : Inferred) × IsIn (filter goes_from_none found) i × (due_with env i ≡ d) = of_map (due_with env) (filter goes_from_none found) d h in
+        let k : IsIn found i.0 × IsTrue (goes_from_none i.0) = of_filter goes_from_none found i.0 i.1 in
+        (i.0, k.0, k.1, i.2)
+
+    from_none : (a b : Option Fact) → IsTrue (is_none (option_or a b)) → (f : Fact) → IsIn (facts a b) f → ⊥
+    from_none None None t f h = h
+    from_none None (Some b) t f h = true≢false (sym t)
+    from_none (Some a) None t f h = true≢false (sym t)
+    from_none (Some a) (Some b) t f h = true≢false (sym t)
+
+    due_leads : (i : Inferred) → IsIn found i → IsTrue (goes_from_none i) → HasAt (stock slots) i.to (members env)
+    due_leads i h none =
+        leads_on (stock slots) (members env) (facts i.first i.second) i.maker i.to (made.leads i h)
+        (let P : Option ℕ → Type 0 = λ m. HasMaker m (members env) in subst P (sym (made.maker i h)) (only_maker slots w.slot env is))
+        (λ f at. absurd (from_none i.first i.second none f at))
+
+    due_now : IsPendingSound (stock slots) (DueIn Dues)
+    due_now = record {
+      environments = λ t E d.
+          let i : (i : Inferred) × IsIn found i × IsTrue (goes_from_none i) × (due_with env i ≡ d.0) = due_of d.0 d.1 in
+          subst (IsEnvironment (stock slots)) (ap (λ (x : Due). members x.env) i.3 ∙ d.3) (only_environment slots w.slot env is (rw works refl));
+      sound = λ t E d.
+          let i : (i : Inferred) × IsIn found i × IsTrue (goes_from_none i) × (due_with env i ≡ d.0) = due_of d.0 d.1 in
+          let P : Set ℕ → Type 0 = λ F. HasAt (stock slots) t F in
+          let Q : Target → Type 0 = λ s. HasAt (stock slots) s (members env) in
+          subst P (ap (λ (x : Due). members x.env) i.3 ∙ d.3) (subst Q (ap (λ (x : Due). x.target) i.3 ∙ d.2) (due_leads i.0 i.1 i.2));
+    }
+
+    -- each choice for an inference of the component is due, or waits at one of its facts
+    module _ (i : Inferred) (of_found : IsIn found i) (E : Set ℕ) (maker : HasMaker i.maker E) where
+      abbrev IsSeenTo : List Fact → List (Set ℕ) → Type 0
+      IsSeenTo from ms = IsDue (KeptIn w.labels) (DueIn Dues) i.to E ⊎ SomeWaits (WaitsIn Items (inference i)) from ms
+
+      slot_in : IsTrue (E w.slot)
+      slot_in = maker w.slot (made.maker i of_found)
+
+      due_there : IsTrue (goes_from_none i) → IsDue (KeptIn w.labels) (DueIn Dues) i.to E
+      due_there none = inr (members env, (due_with env i, in_map (due_with env) (filter goes_from_none found) i (in_filter goes_from_none found i of_found none), refl, refl), only_inside slots w.slot env is E slot_in)
+
+      waits_there : (f : Fact) (m : Set ℕ) → some_fact i ≡ Some f → KeptIn w.labels (Some f) m → WaitsIn Items (inference i) f m
+      waits_there f m at k =
+          let x : (x : Item) × IsIn Items x × (x.inferred ≡ i) × (x.at ≡ f) × (members x.env ≡ m) = in_items w.labels.nodes.items found i f m of_found at k in
+          (x.0, x.1, ap inference x.2, x.3, x.4)
+
+      seen_to : (a b : Option Fact) → i.first ≡ a → i.second ≡ b → (ms : List (Set ℕ)) → AreChosen (KeptIn w.labels) E (facts a b) ms → IsSeenTo (facts a b) ms
+      seen_to None None ea eb ms c = inl (due_there (rw (ea, eb) refl))
+      seen_to (Some a) None ea eb [] c = absurd c
+      seen_to (Some a) None ea eb (m ∷ ms) c = inr (inl (waits_there a m (rw ea refl) c.0))
+      seen_to None (Some b) ea eb [] c = absurd c
+      seen_to None (Some b) ea eb (m ∷ ms) c = inr (inl (waits_there b m (rw (ea, eb) refl) c.0))
+      seen_to (Some a) (Some b) ea eb [] c = absurd c
+      seen_to (Some a) (Some b) ea eb (m ∷ ms) c = inr (inl (waits_there a m (rw ea refl) c.0))
+
+    choices :
+        (j : Inference) (ms : List (Set ℕ)) (E : Set ℕ) → RecordedIn New j → j.maker ≡ Some w.slot → AreChosen (KeptIn w.labels) E j.from ms → HasMaker j.maker E
+        → IsDue (KeptIn w.labels) (DueIn Dues) j.to E ⊎ SomeWaits (WaitsIn Items j) j.from ms
+    choices j ms E r by chosen maker =
+        elim (split j r) [
+          | inl o ↦ inl (inl (choice_reached S (KeptIn w.labels) exact.settled j ms E (exact.are.leads j o) chosen maker))
+          | inr n ↦
+              let P : Inference → Type 0 = λ i. AreChosen (KeptIn w.labels) E i.from ms → HasMaker i.maker E → IsDue (KeptIn w.labels) (DueIn Dues) i.to E ⊎ SomeWaits (WaitsIn Items i) i.from ms in
+              subst P n.2 (λ (c : AreChosen (KeptIn w.labels) E (facts n.0.first n.0.second) ms) (m : HasMaker n.0.maker E). seen_to n.0 n.1 E m n.0.first n.0.second refl refl ms c) chosen maker
+        ]
+
+    all_begun : Holds slots w.slot w.labels New Dues Items
+    all_begun =
+        start_part S (stock slots) w.slot more (decide w.slot) Alive (KeptIn w.labels) Old exact.settled exact.are exact.lives (DueIn Dues) due_now part works (RecordedIn New) (WaitsIn Items) now_recorded now_made waiting choices
+
+    pub part_begins : (recorded : List Inferred) (dues : List Due) (items : List Item) → recorded ≡ New → dues ≡ w.due.items ++ Dues → items ≡ w.agenda ++ Items → Holds slots w.slot w.labels recorded dues items
+    part_begins recorded dues items r d i = rw (r, d, i, exact.none_due, exact.nothing_waits) all_begun

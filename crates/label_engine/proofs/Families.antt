@@ -8,7 +8,7 @@ use Rattle.environment_sets.specs.declared.environment.Env.{Env}
 use Rattle.environment_sets.specs.declared.environment.TheConstants.{SLOTS}
 use Rattle.environment_sets.specs.Sets.{Set, ◌⊆◌, is_within}
 use Rattle.environment_sets.specs.Members.{members, HasMember}
-use Rattle.environment_sets.specs.Lists.{IsIn}
+use Rattle.environment_sets.specs.Lists.{IsIn, AreDistinct}
 use Rattle.environment_sets.proofs.Slots.{slots_are_below}
 use Rattle.environment_sets.proofs.Within.{within_holds, holds_within}
 use Rattle.propagation.specs.Propagating.{Target, IsReached}
@@ -32,6 +32,16 @@ module _ {X : Type 0} where
   in_either [] ys x h = inr h
   in_either (y ∷ xs) ys x (inl e) = inl (inl e)
   in_either (y ∷ xs) ys x (inr h) = elim (in_either xs ys x h) [ inl a ↦ inl (inr a) | inr b ↦ inr b ]
+
+  pub distinct_append : (xs ys : List X) → AreDistinct xs → AreDistinct ys → ((x : X) → IsIn xs x → IsIn ys x → ⊥) → AreDistinct (xs ++ ys)
+  distinct_append [] ys d e apart = e
+  distinct_append (x ∷ xs) ys d e apart = (
+    λ y h. elim (in_either xs ys y h) [ inl a ↦ d.0 y a | inr b ↦ λ same. apart x (inl refl) (subst (IsIn ys) (sym same) b) ],
+    distinct_append xs ys d.1 e (λ z a b. apart z (inr a) b),
+  )
+
+  pub distinct_more : (xs : List X) (x : X) → AreDistinct xs → (IsIn xs x → ⊥) → AreDistinct (xs ++ x ∷ [])
+  distinct_more xs x d out = distinct_append xs (x ∷ []) d ((λ y (bad : ⊥). absurd bad), tt) (λ y a b. elim b [ inl same ↦ out (subst (IsIn xs) (sym same) a) | inr bad ↦ bad ])
 
   pub in_filter : (p : X → Bool) (xs : List X) (x : X) → IsIn xs x → IsTrue (p x) → IsIn (filter p xs) x
   in_filter p [] x h t = h

@@ -15,10 +15,13 @@ use Rattle.propagation.proofs.Steps.{reached_stays, reached_there}
 use Rattle.propagation.proofs.Whole as whole
 use Rattle.label_engine.specs.declared.labels.Labels.{Labels}
 use Rattle.label_engine.specs.declared.labels.Due.{Due}
-use Rattle.label_engine.specs.declared.work.Inferred.{Inferred}
+use Rattle.inference_search.specs.declared.inferred.Inferred.{Inferred}
 use Rattle.label_engine.specs.declared.work.Item.{Item}
 use Rattle.label_engine.specs.Labels.{facts_of, KeptIn, reaches}
-use Rattle.label_engine.specs.Work.{stock, is_same_target, facts, inference, UsesIt, DueIn, RecordedIn, WaitsIn, AreFound, Holds, item_at, items_at, items_for}
+use Rattle.label_engine.specs.Work.{is_same_target, UsesIt, DueIn, WaitsIn, Holds, item_at, items_at, items_for}
+use Rattle.inference_search.specs.Slots.{stock}
+use Rattle.inference_search.specs.Inferences.{facts, inference, RecordedIn}
+use Rattle.inference_search.specs.Found.{AreFound}
 use Rattle.label_engine.proofs.Families.{in_front, in_back, in_either, in_filter, of_filter, in_map, of_map, either, either_left, either_right, same_target, target_same, reached_is, is_reached_of, not_reached_is}
 
 module _ (slots : List (Option Assumption)) (slot : ℕ) (labels : Labels) (recorded : List Inferred) (due : Due) (dues : List Due) (agenda : List Item) where

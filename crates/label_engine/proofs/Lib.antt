@@ -7,4 +7,10 @@ pub mod Holding
 pub mod Walked
 pub mod Pieces
 pub mod Assuming
+pub mod TakingBack
 pub mod Opened
+pub mod Remembering
+pub mod Masks
+pub mod Asked
+pub mod Values
+pub mod Counts

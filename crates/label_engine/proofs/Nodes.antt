@@ -1,5 +1,5 @@
 -- The labels of lists of nodes.
-use Rattle.std.proofs.Common.{◌≡◌, ℕ, ◌+◌, ◌<◌, ◌≤◌, ◌⊎◌, inl, inr, Bool, true, false, ◌==◌, ◌&&◌, cond, nat_lt, IsTrue, true≢false, refl, sym, ap, ap₂, subst, ◌∙◌, List, [], ◌∷◌, ◌++◌, length, take, drop, take_all, get_or, set, position, Some, None, IsSome, arith}
+use Rattle.std.proofs.Common.{◌≡◌, ℕ, ◌+◌, ◌<◌, ◌≤◌, ◌⊎◌, inl, inr, Bool, true, false, ◌==◌, ◌&&◌, cond, nat_lt, IsTrue, true≢false, refl, sym, ap, ap₂, subst, ◌∙◌, List, [], ◌∷◌, ◌++◌, length, take, drop, get_or, set, position, Some, None, IsSome, arith}
 use Rattle.std.specs.List.{find, position_or_len, slice_get}
 use Rattle.std.proofs.lemmas.Bool.Decides.{nat_tests}
 use Rattle.std.proofs.lemmas.List.{take_more, take_more_set, drop_more, drop-set-lt}
@@ -152,9 +152,6 @@ module _ (P : Set ℕ → Type 0) where
   dropped_push (x ∷ old) [] o n e same drops = absurd e
   dropped_push (x ∷ old) (y ∷ new) o n e same drops = (e.0, e.1, dropped_push old new o n e.2 same drops)
 
-  pub none_dropped : (old : List Node) → AreDropped P old old 0
-  none_dropped old = record { done = tt; rest = refl }
-
   pub one_dropped :
       (old now : List Node) (i : ℕ) (d y : Node) → length now ≡ length old → i < length now → AreDropped P old now i → y.fact ≡ (get_or now i d).fact
       → Drops (HasMember (get_or now i d).label) (HasMember y.label) P → AreDropped P old (set now i y) (i + 1)
@@ -168,11 +165,3 @@ module _ (P : Set ℕ → Type 0) where
         done = rw (take_more old i d low_old, take_more_set now i y low) (dropped_push (take i old) (take i now) (get_or old i d) y was.done (same ∙ ap (λ (n : Node). n.fact) first) (subst Q first drops));
         rest = drop-set-lt (i + 1) now i y (omega arith) ∙ others;
       }
-
-  pub all_dropped : (old now : List Node) (i : ℕ) → length now ≡ length old → length now ≤ i → AreDropped P old now i → EachDrops P old now
-  all_dropped old now i long past was =
-      let whole : take i old ≡ old = take_all i old (omega (arith, long, past)) in
-      let whole_now : take i now ≡ now = take_all i now past in
-      let Q : List Node → Type 0 = λ l. EachDrops P old l in
-      let R : List Node → Type 0 = λ l. EachDrops P l (take i now) in
-      subst Q whole_now (subst R whole was.done)

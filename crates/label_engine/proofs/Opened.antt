@@ -1,24 +1,19 @@
 -- With nothing remembered, nothing kept is exact.
-use Rattle.std.proofs.Common.{◌≡◌, ℕ, zero, suc, sym, subst, ◌∙◌, List, [], ◌∷◌, ◌++◌, Option, Some, None}
+use Rattle.std.proofs.Common.{◌≡◌, ℕ, sym, subst, ◌∙◌, List, [], Option, Some, None}
 use Rattle.circuit_model.specs.declared.model.Assumption.{Assumption}
 use Rattle.circuit_model.specs.declared.model.Fact.{Fact}
 use Rattle.environment_sets.specs.declared.environment.Env.{Env}
 use Rattle.environment_sets.specs.Sets.{Set}
 use Rattle.environment_sets.specs.Members.{HasMember}
-use Rattle.environment_sets.specs.Lists.{IsIn}
+use Rattle.environment_sets.specs.Lists.{IsIn, AreDistinct}
 use Rattle.propagation.specs.Propagating.{Target, Inference}
 use Rattle.label_engine.specs.declared.labels.Node.{Node}
 use Rattle.label_engine.specs.declared.labels.Labels.{Labels}
-use Rattle.label_engine.specs.declared.work.Inferred.{Inferred}
+use Rattle.inference_search.specs.declared.inferred.Inferred.{Inferred}
 use Rattle.label_engine.specs.Engine.{IsRemembering}
 use Rattle.label_engine.specs.Labels.{facts_of, label_of, KeptIn}
-use Rattle.label_engine.specs.Work.{stock, RecordedIn}
-
-pub one_more_free : (xs : List (Option Assumption)) → ((k : ℕ) → stock xs k ≡ None) → (k : ℕ) → stock (xs ++ None ∷ []) k ≡ None
-one_more_free [] free zero = free zero
-one_more_free [] free (suc k) = free zero
-one_more_free (x ∷ xs) free zero = free zero
-one_more_free (x ∷ xs) free (suc k) = one_more_free xs (λ i. free (suc i)) k
+use Rattle.inference_search.specs.Slots.{stock}
+use Rattle.inference_search.specs.Inferences.{RecordedIn}
 
 module _ (slots : List (Option Assumption)) (free : (k : ℕ) → stock slots k ≡ None) where
   nothing : (k : ℕ) (a : Assumption) → stock slots k ≡ Some a → ⊥
@@ -57,4 +52,5 @@ module _ (slots : List (Option Assumption)) (free : (k : ℕ) → stock slots k 
         two_words = λ c v x differ low high. absurd (none_met _ low);
       };
       lives = λ f E k. absurd (none_kept (Some f) E k);
+      once = (let P : List Node → Type 0 = λ l. AreDistinct (facts_of l) in subst P (sym nodes) tt);
     }

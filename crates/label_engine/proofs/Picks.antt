@@ -12,10 +12,12 @@ use Rattle.propagation.proofs.Unions.{leads_on, has_more, maker_some}
 use Rattle.propagation.proofs.Whole as whole
 use Rattle.label_engine.specs.declared.labels.Labels.{Labels}
 use Rattle.label_engine.specs.declared.labels.Due.{Due}
-use Rattle.label_engine.specs.declared.work.Inferred.{Inferred}
+use Rattle.inference_search.specs.declared.inferred.Inferred.{Inferred}
 use Rattle.label_engine.specs.declared.work.Item.{Item}
 use Rattle.label_engine.specs.Labels.{facts_of, KeptIn}
-use Rattle.label_engine.specs.Work.{stock, is_same_target, facts, inference, partner, made_by, DueIn, RecordedIn, WaitsIn, Holds, IsUnion, HasUnions}
+use Rattle.label_engine.specs.Work.{is_same_target, partner, made_by, DueIn, WaitsIn, Holds, IsUnion, HasUnions}
+use Rattle.inference_search.specs.Slots.{stock}
+use Rattle.inference_search.specs.Inferences.{facts, inference, RecordedIn}
 use Rattle.label_engine.proofs.Families.{in_front, in_back, in_either, either, either_left, either_right, same_target, target_same}
 
 maker_is : (maker : Option ℕ) (n : ℕ) → IsTrue (made_by maker n) → maker ≡ Some n

@@ -8,19 +8,21 @@ use Rattle.circuit_model.specs.declared.model.Assumption.{Assumption}
 use Rattle.circuit_model.specs.Settled.{IsSettled}
 use Rattle.environment_sets.specs.Sets.{Set}
 use Rattle.environment_sets.specs.Members.{members}
-use Rattle.environment_sets.specs.Lists.{IsIn}
+use Rattle.environment_sets.specs.Lists.{IsIn, AreDistinct}
 use Rattle.propagation.specs.Propagating.{Target, Family, Inference, IsReached, AgreeWithout, IsPropagating}
 use Rattle.propagation.proofs.Whole as whole
 use Rattle.propagation.specs.Uncovered.{uncovered, TargetFits}
 use Rattle.label_engine.specs.declared.labels.Node.{Node}
 use Rattle.label_engine.specs.declared.labels.Labels.{Labels}
 use Rattle.label_engine.specs.declared.labels.Due.{Due}
-use Rattle.label_engine.specs.declared.work.Inferred.{Inferred}
+use Rattle.inference_search.specs.declared.inferred.Inferred.{Inferred}
 use Rattle.label_engine.specs.declared.work.Item.{Item}
 use Rattle.label_engine.specs.declared.work.Work.{Work}
 use Rattle.label_engine.specs.Labels.{facts_of, label_of, KeptIn, reaches}
-use Rattle.label_engine.specs.Work.{AllLead, Survives, stock, partner, DueIn, RecordedIn, WaitsIn, Propagates, Holds, DueAlso, HasUnions, HasUnionsWith, IsEnlivened, KeptInSame, IsPutThere, IsReady, IsDone, CarriesOn, AgreesWith}
-use Rattle.label_engine.proofs.Families.{in_back, in_front, in_either, same_family, same_test, label_of-met}
+use Rattle.label_engine.specs.Work.{Survives, partner, DueIn, WaitsIn, Propagates, Holds, DueAlso, HasUnions, HasUnionsWith, IsEnlivened, KeptInSame, IsPutThere, IsReady, IsDone, CarriesOn, AgreesWith}
+use Rattle.inference_search.specs.Slots.{stock}
+use Rattle.inference_search.specs.Inferences.{RecordedIn}
+use Rattle.label_engine.proofs.Families.{in_back, in_front, in_either, distinct_more, same_family, same_test, label_of-met}
 use Rattle.label_engine.proofs.Holding.{holds_reached, holds_alive, holds_put, agrees_put, fewer_uncovered, load_falls}
 
 pub IfOk-map : {A E : Type 0} {P Q : A → Type 0} → (r : Result A E) → ((x : A) → P x → Q x) → IfOk r P → IfOk r Q
@@ -55,59 +57,62 @@ module _ {A E : Type 0} (r : Result A E) (old new : Labels) (f : Fact) (ok : OnO
         | Err e ↦ λ _ o. ([], ap facts_of o ∙ sym (append-nil (facts_of old.nodes.items)))
       ] ok err
 
+  -- no fact comes to have two nodes, where it had none
+  pub once_met : (IsIn (facts_of old.nodes.items) f → ⊥) → AreDistinct (facts_of old.nodes.items) → AreDistinct (facts_of new.nodes.items)
+  once_met dead d =
+      elim r as (λ (x : Result A E). OnOk x (new.nodes.items ≡ old.nodes.items ++ record { fact = f; label = [] } ∷ []) → OnErr x (new.nodes.items ≡ old.nodes.items) → AreDistinct (facts_of new.nodes.items)) [
+        | Ok x ↦ λ o _. subst AreDistinct (sym (ap facts_of o ∙ map-append (λ (n : Node). n.fact) old.nodes.items (record { fact = f; label = [] } ∷ []))) (distinct_more (facts_of old.nodes.items) f d dead)
+        | Err e ↦ λ _ o. subst AreDistinct (sym (ap facts_of o)) d
+      ] ok err
+
 pub agrees_same : (old new : Work) → KeptInSame old new → AgreesWith old new
 agrees_same old new s t E _ = let P : Family → Type 0 = λ K. K t E ↔ KeptIn new.labels t E in subst P (same_family old.labels new.labels s.labels s.nogoods) ((λ (k : KeptIn new.labels t E). k), (λ (k : KeptIn new.labels t E). k))
 
+pub survives_same : (w : Work) → Survives w w
+survives_same w = record {
+  agrees = λ t E _. ((λ (k : KeptIn w.labels t E). k), (λ (k : KeptIn w.labels t E). k));
+  same_slot = refl;
+  added = [];
+  recorded = sym (append-nil w.recorded.items);
+  born = [];
+  alive = sym (append-nil (facts_of w.labels.nodes.items));
+  once = λ (d : AreDistinct (facts_of w.labels.nodes.items)). d;
+}
+
+-- one step after another
+agree_trans : (slot : ℕ) (a b c : Family) → AgreeWithout slot a b → AgreeWithout slot b c → AgreeWithout slot a c
+agree_trans slot a b c x y t E out = ((λ (k : a t E). (y t E out).0 ((x t E out).0 k)), (λ (k : c t E). (x t E out).1 ((y t E out).1 k)))
+
+pub agrees_on : (a b c : Work) → AgreesWith a b → b.slot ≡ a.slot → AgreesWith b c → AgreesWith a c
+agrees_on a b c first same then = agree_trans a.slot (KeptIn a.labels) (KeptIn b.labels) (KeptIn c.labels) first (let P : ℕ → Type 0 = λ s. AgreeWithout s (KeptIn b.labels) (KeptIn c.labels) in subst P same then)
+
+pub survives_on :
+    (a b c : Work) → Survives a b → AgreesWith b c → c.slot ≡ b.slot → (added : List Inferred) → c.recorded.items ≡ b.recorded.items ++ added
+    → (born : List Fact) → facts_of c.labels.nodes.items ≡ facts_of b.labels.nodes.items ++ born
+    → (AreDistinct (facts_of b.labels.nodes.items) → AreDistinct (facts_of c.labels.nodes.items)) → Survives a c
+survives_on a b c first agrees slot added recorded born alive once = record {
+  agrees = agrees_on a b c first.agrees first.same_slot agrees;
+  same_slot = slot ∙ first.same_slot;
+  added = first.added ++ added;
+  recorded = recorded ∙ (ap (λ l. l ++ added) first.recorded ∙ append_assoc a.recorded.items first.added added);
+  born = first.born ++ born;
+  alive = alive ∙ (ap (λ l. l ++ born) first.alive ∙ append_assoc (facts_of a.labels.nodes.items) first.born born);
+  once = λ (d : AreDistinct (facts_of a.labels.nodes.items)). once (first.once d);
+}
+
+-- a change of labels alone
+pub survives_then : (a b c : Work) → Survives a b → AgreesWith b c → c.slot ≡ b.slot → c.recorded.items ≡ b.recorded.items → facts_of c.labels.nodes.items ≡ facts_of b.labels.nodes.items → Survives a c
+survives_then a b c first agrees slot recorded alive = record {
+  agrees = agrees_on a b c first.agrees first.same_slot agrees;
+  same_slot = slot ∙ first.same_slot;
+  added = first.added;
+  recorded = recorded ∙ first.recorded;
+  born = first.born;
+  alive = alive ∙ first.alive;
+  once = λ (d : AreDistinct (facts_of a.labels.nodes.items)). subst AreDistinct (sym alive) (first.once d);
+}
+
 module _ (slots : List (Option Assumption)) where
-  pub lead_both : (xs ys : List Inferred) → AllLead slots xs → AllLead slots ys → AllLead slots (xs ++ ys)
-  lead_both xs ys a b i h = elim (in_either xs ys i h) [ inl x ↦ a i x | inr y ↦ b i y ]
-
-  pub lead_take : (k : ℕ) (xs : List Inferred) → AllLead slots xs → AllLead slots (take k xs)
-  lead_take k xs all i h = all i (let P : List Inferred → Type 0 = λ l. IsIn l i in subst P (take-append-drop k xs) (in_front (take k xs) (drop k xs) i h))
-
-  pub survives_same : (w : Work) → Survives slots w w
-  survives_same w = record {
-    agrees = λ t E _. ((λ (k : KeptIn w.labels t E). k), (λ (k : KeptIn w.labels t E). k));
-    same_slot = refl;
-    added = [];
-    lead = λ i h. absurd h;
-    recorded = sym (append-nil w.recorded.items);
-    born = [];
-    alive = sym (append-nil (facts_of w.labels.nodes.items));
-  }
-
-  -- one step after another
-  agree_trans : (slot : ℕ) (a b c : Family) → AgreeWithout slot a b → AgreeWithout slot b c → AgreeWithout slot a c
-  agree_trans slot a b c x y t E out = ((λ (k : a t E). (y t E out).0 ((x t E out).0 k)), (λ (k : c t E). (x t E out).1 ((y t E out).1 k)))
-
-  pub agrees_on : (a b c : Work) → AgreesWith a b → b.slot ≡ a.slot → AgreesWith b c → AgreesWith a c
-  agrees_on a b c first same then = agree_trans a.slot (KeptIn a.labels) (KeptIn b.labels) (KeptIn c.labels) first (let P : ℕ → Type 0 = λ s. AgreeWithout s (KeptIn b.labels) (KeptIn c.labels) in subst P same then)
-
-  pub survives_on :
-      (a b c : Work) → Survives slots a b → AgreesWith b c → c.slot ≡ b.slot → (added : List Inferred) → AllLead slots added → c.recorded.items ≡ b.recorded.items ++ added
-      → (born : List Fact) → facts_of c.labels.nodes.items ≡ facts_of b.labels.nodes.items ++ born → Survives slots a c
-  survives_on a b c first agrees slot added lead recorded born alive = record {
-    agrees = agrees_on a b c first.agrees first.same_slot agrees;
-    same_slot = slot ∙ first.same_slot;
-    added = first.added ++ added;
-    lead = lead_both first.added added first.lead lead;
-    recorded = recorded ∙ (ap (λ l. l ++ added) first.recorded ∙ append_assoc a.recorded.items first.added added);
-    born = first.born ++ born;
-    alive = alive ∙ (ap (λ l. l ++ born) first.alive ∙ append_assoc (facts_of a.labels.nodes.items) first.born born);
-  }
-
-  -- a change of labels alone
-  pub survives_then : (a b c : Work) → Survives slots a b → AgreesWith b c → c.slot ≡ b.slot → c.recorded.items ≡ b.recorded.items → facts_of c.labels.nodes.items ≡ facts_of b.labels.nodes.items → Survives slots a c
-  survives_then a b c first agrees slot recorded alive = record {
-    agrees = agrees_on a b c first.agrees first.same_slot agrees;
-    same_slot = slot ∙ first.same_slot;
-    added = first.added;
-    lead = first.lead;
-    recorded = recorded ∙ first.recorded;
-    born = first.born;
-    alive = alive ∙ first.alive;
-  }
-
   pub carries_same : (w : Work) → Propagates slots w → CarriesOn slots w w
   carries_same w was = record {
     propagates = was;
@@ -229,5 +234,7 @@ done slots entry w was none_due nothing_waits agrees = record {
   settled = holds_ended slots w.slot w.labels w.recorded.items (rw (← none_due, ← nothing_waits) was);
   recorded = was.are;
   lives = was.lives;
+  none_due = none_due;
+  nothing_waits = nothing_waits;
   agrees = agrees;
 }

@@ -1,77 +1,44 @@
--- The walk through the partner's label, and what it leaves.
-use Rattle.std.proofs.Common.{◌≡◌, ℕ, suc, ◌+◌, ◌<◌, inl, inr, refl, sym, subst, ◌∙◌, List, [], ◌∷◌, ◌++◌, length, get_or, Option, Some, None, arith}
+-- The unions with each environment of the partner's label, one after another.
+use Rattle.std.proofs.Common.{◌≡◌, ℕ, ◌⊎◌, inl, inr, refl, subst, List, [], ◌∷◌, ◌++◌}
 use Rattle.environment_sets.specs.declared.environment.Env.{Env}
-use Rattle.environment_sets.specs.declared.environment.TheConstants.{SLOTS}
-use Rattle.environment_sets.specs.Sets.{Set, ◌⊆◌}
+use Rattle.environment_sets.specs.Sets.{Set}
 use Rattle.environment_sets.specs.Members.{members, HasMember}
-use Rattle.environment_sets.specs.Lists.{IsIn, AreDistinct}
-use Rattle.environment_sets.specs.Orders.{IsOrder, ListsAll}
-use Rattle.environment_sets.specs.Walks.{IsNext, GivesNext}
-use Rattle.environment_sets.proofs.Listings.{IsIn-get_or}
-use Rattle.environment_sets.proofs.Slots.{slots_are_below}
-use Rattle.label_engine.specs.declared.every_slot.EverySlot.{EverySlot}
+use Rattle.environment_sets.specs.Lists.{IsIn}
 use Rattle.label_engine.specs.declared.labels.Due.{Due}
 use Rattle.label_engine.specs.declared.work.Item.{Item}
-use Rattle.label_engine.specs.Work.{IsUnion, HasUnionsWith, HasUnionsSoFar}
-use Rattle.label_engine.proofs.Families.{in_front, in_back, in_either, of_map}
+use Rattle.label_engine.specs.Work.{IsUnion, HasUnionsWith}
+use Rattle.label_engine.proofs.Families.{in_front, in_back, in_either}
 
-of_in : (xs : List ℕ) (y : ℕ) → IsIn xs y → (k : ℕ) × (k < length xs) × (get_or xs k 0 ≡ y)
-of_in [] y h = absurd h
-of_in (x ∷ xs) y (inl e) = (0, omega arith, e)
-of_in (x ∷ xs) y (inr h) = let r : (k : ℕ) × (k < length xs) × (get_or xs k 0 ≡ y) = of_in xs y h in (suc r.0, omega (arith, r.1), r.2)
+member_front : (xs ys : List Env) (E : Set ℕ) → HasMember xs E → HasMember (xs ++ ys) E
+member_front [] ys E h = absurd h
+member_front (x ∷ xs) ys E (inl e) = inl e
+member_front (x ∷ xs) ys E (inr h) = inr (member_front xs ys E h)
 
-distinct_run : (s : ℕ) (xs : List ℕ) → ((k : ℕ) → k < length xs → get_or xs k 0 ≡ s + k) → AreDistinct xs
-distinct_run s [] run = tt
-distinct_run s (x ∷ xs) run = (
-  λ y i e.
-      let r : (k : ℕ) × (k < length xs) × (get_or xs k 0 ≡ y) = of_in xs y i in
-      let first : x ≡ s + 0 = run 0 (omega arith) in
-      let later : get_or xs r.0 0 ≡ s + suc r.0 = run (suc r.0) (omega (arith, r.1)) in
-      omega (arith, first, later, r.2, e),
-  distinct_run (suc s) xs (λ k low. let later : get_or xs k 0 ≡ s + suc k = run (suc k) (omega (arith, low)) in omega (arith, later)),
-)
+member_back : (xs : List Env) (y : Env) → HasMember (xs ++ y ∷ []) (members y)
+member_back [] y = inl refl
+member_back (x ∷ xs) y = inr (member_back xs y)
 
-module _ (every : EverySlot) where
-  pub is_order : IsOrder SLOTS every.order
-  is_order = record {
-    below = λ k i. let r : (p : ℕ) × (p < length every.order) × (get_or every.order p 0 ≡ k) = of_in every.order k i in let low : r.0 < SLOTS = omega (arith, r.1, every.wide) in let at : get_or every.order r.0 0 ≡ r.0 = every.ordered r.0 low in let P : ℕ → Type 0 = λ n. n < SLOTS in subst P (sym at ∙ r.2) low;
-    distinct = distinct_run 0 every.order (λ k low. let within : k < SLOTS = omega (arith, low, every.wide) in let at : get_or every.order k 0 ≡ k = every.ordered k within in omega (arith, at));
-  }
+member_either : (xs : List Env) (y : Env) (E : Set ℕ) → HasMember (xs ++ y ∷ []) E → HasMember xs E ⊎ (members y ≡ E)
+member_either [] y E (inl e) = inr e
+member_either [] y E (inr bad) = absurd bad
+member_either (x ∷ xs) y E (inl e) = inl (inl e)
+member_either (x ∷ xs) y E (inr h) = elim (member_either xs y E h) [ inl a ↦ inl (inr a) | inr b ↦ inr b ]
 
-  pub lists_all : (e : Env) → ListsAll every.order (members e)
-  lists_all e k h =
-      let low : k < SLOTS = slots_are_below e k h in
-      subst (IsIn every.order) (every.ordered k low) (IsIn-get_or every.order k 0 (omega (arith, low, every.wide)))
+pub none_yet : (item : Item) (old : List Due) → HasUnionsWith item [] old old
+none_yet item old = record { stays = λ d i. i; each = λ E h. absurd h; only = λ d i. inl i }
 
-  pub inside_all : (e : Env) → members e ⊆ members every.all
-  inside_all e k h = every.full k (slots_are_below e k h)
-
-module _ (item : Item) (label : List Env) (order : List ℕ) (mask : Set ℕ) (all : (e : Env) → members e ⊆ mask) where
-  inside : (F : Set ℕ) → HasMember label F → F ⊆ mask
-  inside F h = let e : (e : Env) × IsIn label e × (members e ≡ F) = of_map members label F h in let P : Set ℕ → Type 0 = λ G. G ⊆ mask in subst P e.2 (all e.0)
-
-  pub one_more : (last : Option (Set ℕ)) (old mid : List Due) (E : Set ℕ) (d : Due) → HasUnionsSoFar item label order last old mid → IsNext order (HasMember label) mask last E → IsUnion item E d → HasUnionsSoFar item label order (Some E) old (mid ++ d ∷ [])
-  one_more last old mid E d was next is = record {
-    stays = λ x i. in_front mid (d ∷ []) x (was.stays x i);
-    each = λ F h. elim (was.each F h) [
-      | inl r ↦ inl (r.0, in_front mid (d ∷ []) r.0 r.1, r.2)
-      | inr after ↦ elim (next.first F (record { member = h; inside = inside F h; after = after })) [
-        | inl e ↦ inl (d, in_back mid (d ∷ []) d (inl refl), (let P : Set ℕ → Type 0 = λ G. IsUnion item G d in subst P e is))
-        | inr before ↦ inr before
-      ]
-    ];
-    only = λ x i. elim (in_either mid (d ∷ []) x i) [
-      | inl o ↦ was.only x o
-      | inr l ↦ elim l [
-        | inl e ↦ inr (E, next.further.member, (let P : Due → Type 0 = λ y. IsUnion item E y in subst P e is))
-        | inr bad ↦ absurd bad
-      ]
-    ];
-  }
-
-  pub whole_walk : (last : Option (Set ℕ)) (old mid : List Due) → HasUnionsSoFar item label order last old mid → GivesNext order (HasMember label) mask last None → HasUnionsWith item label old mid
-  whole_walk last old mid was none = record {
-    stays = was.stays;
-    each = λ F h. elim (was.each F h) [ inl r ↦ r | inr after ↦ absurd (none F (record { member = h; inside = inside F h; after = after })) ];
-    only = was.only;
-  }
+pub one_more : (item : Item) (envs : List Env) (env : Env) (old mid : List Due) (d : Due) → HasUnionsWith item envs old mid → IsUnion item (members env) d → HasUnionsWith item (envs ++ env ∷ []) old (mid ++ d ∷ [])
+one_more item envs env old mid d was is = record {
+  stays = λ x i. in_front mid (d ∷ []) x (was.stays x i);
+  each = λ E h. elim (member_either envs env E h) [
+    | inl before ↦ let r : (x : Due) × IsIn mid x × IsUnion item E x = was.each E before in (r.0, in_front mid (d ∷ []) r.0 r.1, r.2)
+    | inr same ↦ (d, in_back mid (d ∷ []) d (inl refl), (let P : Set ℕ → Type 0 = λ F. IsUnion item F d in subst P same is))
+  ];
+  only = λ x i. elim (in_either mid (d ∷ []) x i) [
+    | inl o ↦ elim (was.only x o) [ inl first ↦ inl first | inr r ↦ inr (r.0, member_front envs (env ∷ []) r.0 r.1, r.2) ]
+    | inr l ↦ elim l [
+      | inl e ↦ inr (members env, member_back envs env, (let P : Due → Type 0 = λ y. IsUnion item (members env) y in subst P e is))
+      | inr bad ↦ absurd bad
+    ]
+  ];
+}

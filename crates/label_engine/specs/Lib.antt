@@ -1,4 +1,4 @@
 pub mod Labels
 pub mod Work
-pub mod EverySlot
 pub mod Engine
+pub mod Questions

@@ -1,6 +1,6 @@
 -- What is kept while one assumption more is worked in.
-use Rattle.std.specs.Prelude.{◌≡◌, ◌⊎◌, ℕ, ◌+◌, ◌*◌, ◌^◌, Bool, true, false, ◌||◌, ◌==◌, cond, Option, Some, None, List, [], ◌∷◌, ◌++◌, length, slice_get, map, filter, ◌≤◌, ◌↔◌}
-use Rattle.std.specs.Option.{option_flatten}
+use Rattle.std.specs.Prelude.{◌≡◌, ◌⊎◌, ℕ, ◌+◌, ◌*◌, ◌^◌, Bool, true, false, ◌||◌, ◌==◌, cond, Option, Some, None, List, [], ◌∷◌, ◌++◌, length, map, filter, ◌≤◌, ◌↔◌}
+use Rattle.std.specs.Option.{option_or, is_none}
 use Rattle.circuit_model.specs.declared.model.Fact.{Fact}
 use Rattle.circuit_model.specs.declared.model.Assumption.{Assumption}
 use Rattle.circuit_model.specs.Stock.{Stock}
@@ -8,34 +8,24 @@ use Rattle.circuit_model.specs.Settled.{IsSettled}
 use Rattle.environment_sets.specs.declared.environment.Env.{Env}
 use Rattle.environment_sets.specs.Sets.{Set, ◌∪◌, no_elements, only}
 use Rattle.environment_sets.specs.Members.{members, HasMember}
-use Rattle.environment_sets.specs.Lists.{IsIn}
-use Rattle.environment_sets.specs.Walks.{ComesAfter}
-use Rattle.propagation.specs.Propagating.{Target, Family, Inference, Leads, AreRecorded, AreRecordedFrom, IsPropagating, AgreeWithout, IsPut}
+use Rattle.environment_sets.specs.Lists.{IsIn, AreDistinct}
+use Rattle.propagation.specs.Propagating.{Target, Family, Inference, AreRecorded, IsPropagating, AgreeWithout, IsPut}
 use Rattle.propagation.specs.Uncovered.{uncovered}
+use Rattle.label_engine.specs.declared.labels.Node.{Node}
 use Rattle.label_engine.specs.declared.labels.Labels.{Labels}
 use Rattle.label_engine.specs.declared.labels.Due.{Due}
-use Rattle.label_engine.specs.declared.work.Inferred.{Inferred}
+use Rattle.inference_search.specs.declared.inferred.Inferred.{Inferred}
+use Rattle.inference_search.specs.Slots.{stock}
+use Rattle.inference_search.specs.Inferences.{inference, RecordedIn}
+use Rattle.inference_search.specs.Found.{AreFound}
 use Rattle.label_engine.specs.declared.work.Item.{Item}
 use Rattle.label_engine.specs.declared.work.Work.{Work}
 use Rattle.label_engine.specs.Labels.{is_same, facts_of, label_of, KeptIn, reaches}
-
--- what is remembered, by slot
-abbrev pub stock : List (Option Assumption) → Stock ℕ
-stock slots k = option_flatten (slice_get slots k)
 
 abbrev pub is_same_target : Target → Target → Bool
 is_same_target None None = true
 is_same_target (Some f) (Some g) = is_same f g
 is_same_target _ _ = false
-
-abbrev pub facts : Option Fact → Option Fact → List Fact
-facts None None = []
-facts (Some f) None = f ∷ []
-facts None (Some g) = g ∷ []
-facts (Some f) (Some g) = f ∷ g ∷ []
-
-abbrev pub inference : Inferred → Inference
-inference i = record { from = facts i.first i.second; to = i.to; maker = i.maker }
 
 -- the inference goes from the fact
 abbrev pub UsesIt : Fact → Inferred → Bool
@@ -45,17 +35,8 @@ UsesIt f i = is_same_target i.first (Some f) || is_same_target i.second (Some f)
 abbrev pub DueIn : List Due → Family
 DueIn ds t E = (d : Due) × IsIn ds d × (d.target ≡ t) × (members d.env ≡ E)
 
-abbrev pub RecordedIn : List Inferred → Inference → Type 0
-RecordedIn is j = (i : Inferred) × IsIn is i × (inference i ≡ j)
-
 abbrev pub WaitsIn : List Item → Inference → Fact → Set ℕ → Type 0
 WaitsIn items j f E = (i : Item) × IsIn items i × (inference i.inferred ≡ j) × (i.at ≡ f) × (members i.env ≡ E)
-
--- the found inferences are exactly those, of instances and of two words, that use the fact
-pub record AreFound (slots : List (Option Assumption)) (alive : List Fact) (f : Fact) (found : List Inferred) : Type 0 where
-  pub uses : (i : Inferred) → IsIn found i → IsIn (facts i.first i.second) f
-  pub leads : (i : Inferred) → IsIn found i → Leads (stock slots) (facts i.first i.second) i.maker i.to
-  pub all : AreRecordedFrom (stock slots) (λ g. IsIn alive g ⊎ (g ≡ f)) f (RecordedIn found)
 
 -- what holds while more sets are to be put in, and items wait
 abbrev pub Holds : List (Option Assumption) → ℕ → Labels → List Inferred → List Due → List Item → Type 0
@@ -83,6 +64,27 @@ items_at (Some f) e recorded = map (item_at f e) (filter (UsesIt f) recorded)
 abbrev pub items_for : Due → List Inferred → List Item
 items_for due recorded = items_at due.target due.env recorded
 
+-- one of the facts that the inference goes from, if it goes from any
+abbrev pub some_fact : Inferred → Option Fact
+some_fact i = option_or i.first i.second
+
+abbrev pub goes_from_none : Inferred → Bool
+goes_from_none i = is_none (some_fact i)
+
+-- what the inference leads to, with the environment
+abbrev pub due_with : Env → Inferred → Due
+due_with e i = record { target = i.to; env = e }
+
+-- an item for each environment that is kept at the fact
+abbrev pub items_with : List Node → Inferred → Option Fact → List Item
+items_with nodes i None = []
+items_with nodes i (Some f) = map (λ e. item_at f e i) (label_of nodes f)
+
+-- the items with which the inferences begin, each at one of its facts
+abbrev pub items_from : List Node → List Inferred → List Item
+items_from nodes [] = []
+items_from nodes (i ∷ is) = items_with nodes i (some_fact i) ++ items_from nodes is
+
 -- the antecedent other than the fact
 abbrev pub partner : Inferred → Fact → Option Fact
 partner i f = cond (is_same_target i.first (Some f)) i.second i.first
@@ -101,12 +103,6 @@ pub record IsUnion (item : Item) (E : Set ℕ) (d : Due) : Type 0 where
 pub record HasUnionsWith (item : Item) (label : List Env) (old new : List Due) : Type 0 where
   pub stays : (d : Due) → IsIn old d → IsIn new d
   pub each : (E : Set ℕ) → HasMember label E → (d : Due) × IsIn new d × IsUnion item E d
-  pub only : (d : Due) → IsIn new d → IsIn old d ⊎ ((E : Set ℕ) × HasMember label E × IsUnion item E d)
-
--- as far as the walk through the label came
-pub record HasUnionsSoFar (item : Item) (label : List Env) (order : List ℕ) (last : Option (Set ℕ)) (old new : List Due) : Type 0 where
-  pub stays : (d : Due) → IsIn old d → IsIn new d
-  pub each : (E : Set ℕ) → HasMember label E → ((d : Due) × IsIn new d × IsUnion item E d) ⊎ ComesAfter order last E
   pub only : (d : Due) → IsIn new d → IsIn old d ⊎ ((E : Set ℕ) × HasMember label E × IsUnion item E d)
 
 -- what was due is due, and the unions for the item are
@@ -131,11 +127,13 @@ pub record CarriesOn (slots : List (Option Assumption)) (old new : Work) : Type 
   pub same_slot : new.slot ≡ old.slot
   pub no_more : load new ≤ load old
 
--- the labels are settled
+-- the labels are settled, and nothing is under way
 pub record IsDone (slots : List (Option Assumption)) (old new : Work) : Type 0 where
   pub settled : IsSettled (stock slots) (λ f. KeptIn new.labels (Some f)) (KeptIn new.labels None)
   pub recorded : AreRecorded (stock slots) (IsIn (facts_of new.labels.nodes.items)) (RecordedIn new.recorded.items)
   pub lives : (f : Fact) (E : Set ℕ) → KeptIn new.labels (Some f) E → IsIn (facts_of new.labels.nodes.items) f
+  pub none_due : new.due.items ≡ []
+  pub nothing_waits : new.agenda ≡ []
   pub agrees : AgreesWith old new
 
 -- as before, but the target, where it is a fact, has a node
@@ -148,19 +146,16 @@ pub record IsReady (slots : List (Option Assumption)) (due : Due) (old new : Wor
   pub agenda_same : new.agenda ≡ old.agenda
   pub same_slot : new.slot ≡ old.slot
 
--- the inferences lead from their facts
-abbrev pub AllLead : List (Option Assumption) → List Inferred → Type 0
-AllLead slots is = (i : Inferred) → IsIn is i → Leads (stock slots) (facts i.first i.second) i.maker i.to
-
--- what holds at every exit: without the slot all is as before, and what is recorded more is sound
-pub record Survives (slots : List (Option Assumption)) (old new : Work) : Type 0 where
+-- what holds at every exit: without the slot all is as before, what is recorded and met more stands behind, and no fact
+-- comes to have two nodes
+pub record Survives (old new : Work) : Type 0 where
   pub agrees : AgreesWith old new
   pub same_slot : new.slot ≡ old.slot
   pub added : List Inferred
-  pub lead : AllLead slots added
   pub recorded : new.recorded.items ≡ old.recorded.items ++ added
   pub born : List Fact
   pub alive : facts_of new.labels.nodes.items ≡ facts_of old.labels.nodes.items ++ born
+  pub once : AreDistinct (facts_of old.labels.nodes.items) → AreDistinct (facts_of new.labels.nodes.items)
 
 pub record IsPutThere (due : Due) (old new : Work) : Type 0 where
   pub put : IsPut due.target (members due.env) (KeptIn old.labels) (KeptIn new.labels)
@@ -193,6 +188,7 @@ pub record IsExactBefore (slots : List (Option Assumption)) (w : Work) : Type 0 
   pub settled : IsSettled (before slots w.slot) (λ f. KeptIn w.labels (Some f)) (KeptIn w.labels None)
   pub are : AreRecorded (before slots w.slot) (IsIn (facts_of w.labels.nodes.items)) (RecordedIn w.recorded.items)
   pub lives : (f : Fact) (E : Set ℕ) → KeptIn w.labels (Some f) E → IsIn (facts_of w.labels.nodes.items) f
+  pub once : AreDistinct (facts_of w.labels.nodes.items)
   pub none_due : w.due.items ≡ []
   pub nothing_waits : w.agenda ≡ []
 

@@ -1,47 +1,57 @@
 // The engine: what is remembered, and its labels and nogoods.
 
-ghost use Rattle.std.specs.Prelude.{◌≡◌, ℕ, None, IfOk};
+ghost use Rattle.std.specs.Prelude.{◌≡◌, ◌↔◌, ℕ, None, Some, Err, IfOk, IsTrue, OnErr, MatchOption};
 ghost use Rattle.environment_sets.specs.Members.{HasMember};
+ghost use Rattle.circuit_model.specs.declared.model.Assumption.TheVariants.{Reading};
 ghost use Rattle.circuit_model.specs.Settled.{AreExact};
-ghost use Rattle.label_engine.specs.Engine.{label_at};
-ghost use Rattle.label_engine.specs.Work.{stock};
+ghost use Rattle.inference_search.specs.Slots.{stock};
+ghost use Rattle.label_engine.specs.Engine.{label_at, Remembers, AreAllTaken, IsAsBefore};
 
-use crate::labels::Labels;
-use crate::work::Inferred;
-use circuit_model::Assumption;
-use environment_sets::SLOTS;
+use crate::labels::{Labels, is_same_fact};
+use crate::work::Work;
+use circuit_model::{Assumption, Fact};
+use inference_search::Slots;
 use nogood_store::Nogoods;
+use propagation_agenda::{Agenda, Picker};
 use std::alloc::{AllocError, Global};
 use std::marker::Model;
+
+/// Why an assumption was not remembered. All is as before.
+#[derive(Clone, Copy, Debug, PartialEq, Eq)]
+pub enum Stop {
+    /// Each slot stands for an assumption.
+    NoSlot,
+    /// Memory ran out.
+    OutOfMemory,
+}
 
 /// Remembered assumptions by slot, the label of each fact over all of them at once, and their nogoods (de Kleer 1986).
 /// Labels and nogoods are exact whenever no call is running, as `exactness` says.
 #[derive(Drop)]
 pub struct Engine {
-    slots: Vec<Option<Assumption>>,
-    labels: Labels,
-    recorded: Vec<Inferred>,
+    pub(crate) alloc: Global,
+    pub(crate) slots: Slots,
+    pub(crate) work: Work,
 }
 
 impl Model for Engine {
-    ghost use Rattle.label_engine.specs.Engine.{Seen, IsRemembering};
+    ghost use Rattle.label_engine.specs.Engine.{Seen, IsKept};
 
     ghost Value = { Seen };
 
-    ghost view = { λ e. record { slots = e.slots.items; nodes = e.labels.nodes.items; nogoods = e.labels.nogoods } };
+    ghost view = { λ e. record { slots = e.slots; nodes = e.work.labels.nodes.items; nogoods = e.work.labels.nogoods } };
 
-    ghost invariant = { λ e. IsRemembering e.slots.items e.labels e.recorded.items };
+    ghost invariant = { λ e. IsKept e.slots e.work };
 }
 
-// As many free slots as there are.
-fn free_slots(alloc: Global) -> Result<Vec<Option<Assumption>>, AllocError>
-    ensures { IfOk result (λ slots. (k : ℕ) → stock slots.items k ≡ None) }
+// Whether the slot stands for a reading of the fact.
+fn stands_for(slots: &Slots, slot: u8, fact: &Fact) -> bool
+    ensures { IsTrue result ↔ (stock slots.now slot ≡ Some (Reading fact.now)) }
 {
-    let mut slots = Vec::with_capacity(alloc, SLOTS)?;
-    for _slot in 0..SLOTS {
-        slots.push(None)?;
+    match slots.at(slot) {
+        Some(Assumption::Reading(read)) => is_same_fact(read, fact),
+        _ => false,
     }
-    Ok(slots)
 }
 
 impl Engine {
@@ -50,16 +60,19 @@ impl Engine {
         ensures nothing { IfOk result (λ e. (k : ℕ) → stock e.slots k ≡ None) }
         ensures exact { IfOk result (λ e. AreExact (stock e.slots) (label_at e) (HasMember e.nogoods)) }
     {
-        let slots = free_slots(alloc)?;
+        let slots = Slots::open(alloc)?;
         let labels = Labels {
             nodes: Vec::new(alloc),
             nogoods: Nogoods::new(alloc),
         };
-        Ok(Engine {
-            slots,
+        let work = Work {
+            slot: 0,
             labels,
             recorded: Vec::new(alloc),
-        })
+            due: Vec::new(alloc),
+            agenda: Agenda::new(alloc),
+        };
+        Ok(Engine { alloc, slots, work })
     }
 
     /// What every engine keeps: its labels are those of the remembered assumptions, and its nogoods theirs.
@@ -68,17 +81,38 @@ impl Engine {
     {
         let _slots = &self.slots;
     }
-}
 
-#[cfg(test)]
-mod tests {
-    use crate::Engine;
-    use std::test::Fail;
+    /// Remembers one assumption more, and answers its slot. Labels and nogoods are brought up to date by unions of
+    /// environments along the recorded inferences, in an order that the picker chooses and that alters no answer.
+    pub fn assume<P: Picker>(&mut self, what: Assumption, picker: &mut P) -> Result<u16, Stop>
+        ensures ok { IfOk result (λ slot. Remembers (stock self.old.slots) slot what (stock self.new.slots)) }
+        ensures no_slot { (result ≡ Err Stop.NoSlot) ↔ AreAllTaken (stock self.old.slots) }
+        ensures err { OnErr result (IsAsBefore self.old self.new) }
+        ensures exact { AreExact (stock self.new.slots) (label_at self.new) (HasMember self.new.nogoods) }
+    {
+        let Some(slot) = self.slots.first_free() else {
+            return Err(Stop::NoSlot);
+        };
+        self.slots.set(slot, what);
+        self.work.slot = slot;
+        match self.work.assume(self.alloc, &self.slots, picker) {
+            Ok(()) => Ok(u16::from(slot)),
+            Err(_) => {
+                self.slots.clear(slot);
+                Err(Stop::OutOfMemory)
+            }
+        }
+    }
 
-    #[test]
-    fn an_engine_opens(rt: HostRuntime) -> Result<(), Fail> {
-        let engine = Engine::open(rt.alloc())?;
-        engine.exactness();
-        Ok(())
+    /// The slot that stands for a reading of the fact, if one does.
+    pub fn slot_of(&self, fact: Fact) -> Option<u16>
+        ensures { MatchOption result ((k : ℕ) → stock self.now.slots k ≡ Some (Reading fact) → ⊥) (λ k. stock self.now.slots k ≡ Some (Reading fact)) }
+    {
+        for slot in 0..self.slots.count() as u16 {
+            if stands_for(&self.slots, slot as u8, &fact) {
+                return Some(slot);
+            }
+        }
+        None
     }
 }

@@ -1,6 +1,6 @@
 // What is kept: the labels of facts, and the nogoods.
 
-ghost use Rattle.std.specs.Prelude.{◌≡◌, ◌<◌, ◌↔◌, ◌++◌, ◌∷◌, [], IsTrue, OnOk, OnErr, MatchOption, Some, None, position, take};
+ghost use Rattle.std.specs.Prelude.{◌≡◌, ◌<◌, ◌↔◌, ◌++◌, ◌∷◌, [], IsTrue, IfOk, OnOk, OnErr, MatchOption, Some, None, position, take};
 ghost use Rattle.std.specs.List.{list_any};
 ghost use Rattle.environment_sets.specs.Sets.{◌⊆◌};
 ghost use Rattle.environment_sets.specs.Members.{members, HasMember};
@@ -71,6 +71,13 @@ fn drop_slot(nodes: &mut [Node], slot: u16)
 }
 
 impl Labels {
+    /// The facts that were met.
+    pub fn met(&self, alloc: Global) -> Result<Vec<Fact>, AllocError>
+        ensures { IfOk result (λ met. met.items ≡ facts_of self.now.nodes.items) }
+    {
+        self.nodes.iter().map(|node| node.fact).collect(alloc)
+    }
+
     /// Whether the fact was met.
     pub fn is_alive(&self, fact: &Fact) -> bool
         ensures { result ≡ list_any (λ n. is_same n.fact fact.now) self.now.nodes.items }

@@ -2,8 +2,10 @@
 #![tactic(auto)]
 
 mod engine;
-mod every_slot;
 mod labels;
+mod questions;
+#[cfg(test)]
+mod tests;
 mod work;
 
-pub use engine::Engine;
+pub use engine::{Engine, Stop};

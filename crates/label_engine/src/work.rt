@@ -1,30 +1,24 @@
 // One assumption more: what follows is inferred until nothing waits.
 
-ghost use Rattle.std.specs.Prelude.{IsTrue, ◌≡◌, ℕ, ◌^◌, ◌<◌, ◌++◌, ◌∷◌, [], filter, length, IfOk, IfErr, Some, map, take};
+ghost use Rattle.std.specs.Prelude.{IsTrue, ◌≡◌, ℕ, ◌^◌, ◌<◌, ◌++◌, ◌∷◌, [], List, filter, length, IfOk, IfErr, IsSome, Some, map, take};
 ghost use Rattle.environment_sets.specs.Members.{members, HasMember};
+ghost use Rattle.environment_sets.specs.Lists.{AreDistinct};
 ghost use Rattle.antichains.specs.Families.{Drops};
-ghost use Rattle.circuit_model.specs.declared.model.Assumption.TheVariants.{Reading};
+ghost use Rattle.circuit_model.specs.declared.model.Instance.{Instance};
+ghost use Rattle.circuit_model.specs.declared.model.Assumption.TheVariants.{Part, Reading};
 ghost use Rattle.propagation.specs.Uncovered.{Fits, TargetFits};
 ghost use Rattle.propagation.specs.Propagating.{IsReached};
 ghost use Rattle.label_engine.specs.Labels.{facts_of, KeptIn, IsAlive, EachDrops};
-ghost use Rattle.label_engine.specs.Work.{is_same_target, AreFound, UsesIt, item_at, partner, made_by, HasUnions, HasUnionsWith, IsEnlivened, KeptInSame, IsPutThere, Propagates, DueAlso, WaitsAlso, CarriesOn, IsDone, IsReady, IsUnion, Survives, stock, IsExactBefore, IsTakenBack};
+ghost use Rattle.label_engine.specs.Work.{is_same_target, UsesIt, item_at, some_fact, goes_from_none, due_with, items_with, items_from, partner, made_by, HasUnions, HasUnionsWith, IsEnlivened, KeptInSame, IsPutThere, Propagates, DueAlso, WaitsAlso, CarriesOn, IsDone, IsReady, IsUnion, Survives, IsExactBefore, IsTakenBack};
+ghost use Rattle.inference_search.specs.Slots.{stock};
 
-use crate::every_slot::EverySlot;
 use crate::labels::{Due, Labels, is_same_fact};
 use circuit_model::{Assumption, Fact};
 use environment_sets::Env;
+use inference_search::{Inferred, Slots, find_made_by, find_uses};
 use label_algebra::Label;
 use propagation_agenda::{Agenda, Picker};
 use std::alloc::{AllocError, Global};
-
-/// An inference from at most two facts, by a component, where there is one.
-#[derive(Clone, Copy)]
-pub struct Inferred {
-    pub first: Option<Fact>,
-    pub second: Option<Fact>,
-    pub to: Option<Fact>,
-    pub maker: Option<u8>,
-}
 
 /// A recorded inference with one environment that is new at one of its facts.
 #[derive(Clone, Copy)]
@@ -32,17 +26,6 @@ pub struct Item {
     pub inferred: Inferred,
     pub at: Fact,
     pub env: Env,
-}
-
-/// Whoever finds the inferences that use a fact.
-pub trait Finder {
-    fn find(
-        alloc: Global,
-        slots: &[Option<Assumption>],
-        labels: &Labels,
-        fact: &Fact,
-    ) -> Result<Vec<Inferred>, AllocError>
-        ensures { IfOk result (λ v. AreFound slots.now (facts_of labels.now.nodes.items) fact.now v.items) };
 }
 
 /// What is kept, what is to be put in, and what waits, while the assumption at a slot is worked in.
@@ -115,6 +98,81 @@ fn record_all(recorded: &mut Vec<Inferred>, found: &[Inferred]) -> Result<(), Al
     Ok(())
 }
 
+// What the inferences from no fact lead to is due, with the environment.
+fn due_from_none(due: &mut Vec<Due>, found: &[Inferred], env: &Env) -> Result<(), AllocError>
+    ensures { IfOk result (λ _. due.new.items ≡ due.old.items ++ map (due_with env.now) (filter goes_from_none found.now)) }
+{
+    for inferred in found {
+        if fact_of(inferred).is_none() {
+            due.push(Due {
+                target: inferred.to,
+                env: *env,
+            })?;
+        }
+    }
+    Ok(())
+}
+
+// One of the facts that the inference goes from.
+fn fact_of(inferred: &Inferred) -> Option<Fact>
+    ensures { result ≡ some_fact inferred.now }
+{
+    inferred.first.or(inferred.second)
+}
+
+// An item for each environment of the label.
+fn wait_with_each(
+    agenda: &mut Agenda<Item>,
+    inferred: &Inferred,
+    at: &Fact,
+    label: &Label,
+) -> Result<(), AllocError>
+    ensures { IfOk result (λ _. agenda.new ≡ agenda.old ++ map (λ e. item_at at.now e inferred.now) label.now) }
+{
+    for env in label.members() {
+        wait(
+            agenda,
+            Item {
+                inferred: *inferred,
+                at: *at,
+                env: *env,
+            },
+        )?;
+    }
+    Ok(())
+}
+
+// An item for each environment of one of the facts that the inference goes from, if it goes from any.
+fn wait_at_one(
+    agenda: &mut Agenda<Item>,
+    labels: &Labels,
+    inferred: &Inferred,
+) -> Result<(), AllocError>
+    ensures { IfOk result (λ _. agenda.new ≡ agenda.old ++ items_with labels.now.nodes.items inferred.now (some_fact inferred.now)) }
+{
+    let Some(fact) = fact_of(inferred) else {
+        return Ok(());
+    };
+    match labels.label(&fact) {
+        Some(label) => wait_with_each(agenda, inferred, &fact, label),
+        None => Ok(()),
+    }
+}
+
+// The same for each of the inferences.
+fn wait_at_each(
+    agenda: &mut Agenda<Item>,
+    labels: &Labels,
+    found: &[Inferred],
+) -> Result<(), AllocError>
+    ensures { IfOk result (λ _. agenda.new ≡ agenda.old ++ items_from labels.now.nodes.items found.now) }
+{
+    for inferred in found {
+        wait_at_one(agenda, labels, inferred)?;
+    }
+    Ok(())
+}
+
 // The antecedent other than the fact.
 fn partner_of(inferred: &Inferred, fact: &Fact) -> Option<Fact>
     ensures { result ≡ partner inferred.now fact.now }
@@ -168,29 +226,17 @@ fn length_fits(agenda: &Agenda<Item>)
 }
 
 // The unions with each environment of the partner's label.
-fn add_unions_with(
-    due: &mut Vec<Due>,
-    label: &Label,
-    every: &EverySlot,
-    item: &Item,
-) -> Result<(), AllocError>
+fn add_unions_with(due: &mut Vec<Due>, label: &Label, item: &Item) -> Result<(), AllocError>
     ensures { IfOk result (λ _. HasUnionsWith item.now label.now due.old.items due.new.items) }
 {
-    let mut last = None;
-    'walk: while let Some(env) = label.next_after(&every.order, &every.all, last.as_ref()) {
-        due.push(union_of(item, env))?;
-        last = Some(env);
+    for env in label.members() {
+        due.push(union_of(item, *env))?;
     }
     Ok(())
 }
 
 // What the item leads to with what is kept at the other antecedent, if it has another.
-fn add_unions(
-    due: &mut Vec<Due>,
-    labels: &Labels,
-    every: &EverySlot,
-    item: &Item,
-) -> Result<(), AllocError>
+fn add_unions(due: &mut Vec<Due>, labels: &Labels, item: &Item) -> Result<(), AllocError>
     ensures { IfOk result (λ _. HasUnions item.now labels.now due.old.items due.new.items) }
 {
     match partner_of(&item.inferred, &item.at) {
@@ -199,25 +245,22 @@ fn add_unions(
             Ok(())
         }
         Some(partner) => match labels.label(&partner) {
-            Some(label) => add_unions_with(due, label, every, item),
+            Some(label) => add_unions_with(due, label, item),
             None => Ok(()),
         },
     }
 }
 
 impl Work {
-    // The fact is met: the inferences that use it are recorded.
-    fn enliven<F: Finder>(
-        &mut self,
-        alloc: Global,
-        slots: &[Option<Assumption>],
-        fact: &Fact,
-    ) -> Result<(), AllocError>
+    // The fact is met, which it was not: the inferences that use it are recorded.
+    fn enliven(&mut self, alloc: Global, slots: &Slots, fact: &Fact) -> Result<(), AllocError>
+        requires { IsAlive self.old.labels.nodes.items fact.now → ⊥ }
         ensures ok { IfOk result (λ _. IsEnlivened slots.now fact.now self.old self.new) }
-        ensures survives { Survives slots.now self.old self.new }
+        ensures survives { Survives self.old self.new }
         ensures kept { KeptInSame self.old self.new }
     {
-        let found = F::find(alloc, slots, &self.labels, fact)?;
+        let alive = self.labels.met(alloc)?;
+        let found = find_uses(alloc, slots, &alive, *fact)?;
         record_all(&mut self.recorded, &found)?;
         self.labels.enliven(alloc, fact)
     }
@@ -239,41 +282,31 @@ impl Work {
     }
 
     // Where the target is a fact that was not met, it is met.
-    fn come_alive<F: Finder>(
-        &mut self,
-        alloc: Global,
-        slots: &[Option<Assumption>],
-        due: &Due,
-    ) -> Result<(), AllocError>
+    fn come_alive(&mut self, alloc: Global, slots: &Slots, due: &Due) -> Result<(), AllocError>
         requires { DueAlso slots.now due.now self.old }
         ensures ok { IfOk result (λ _. IsReady slots.now due.now self.old self.new) }
-        ensures survives { Survives slots.now self.old self.new }
+        ensures survives { Survives self.old self.new }
         ensures kept { KeptInSame self.old self.new }
     {
         if let Some(fact) = &due.target {
             if !self.labels.is_alive(fact) {
-                return self.enliven::<F>(alloc, slots, fact);
+                return self.enliven(alloc, slots, fact);
             }
         }
         Ok(())
     }
 
     // What is due is put in, where it is not reached already.
-    fn put_in<F: Finder>(
-        &mut self,
-        alloc: Global,
-        slots: &[Option<Assumption>],
-        due: &Due,
-    ) -> Result<(), AllocError>
+    fn put_in(&mut self, alloc: Global, slots: &Slots, due: &Due) -> Result<(), AllocError>
         requires { DueAlso slots.now due.now self.old }
         ensures ok { IfOk result (λ _. CarriesOn slots.now self.old self.new) }
         ensures due_same { IfOk result (λ _. self.new.due.items ≡ self.old.due.items) }
-        ensures survives { Survives slots.now self.old self.new }
+        ensures survives { Survives self.old self.new }
     {
         if self.labels.reaches(due) {
             return Ok(());
         }
-        self.come_alive::<F>(alloc, slots, due)?;
+        self.come_alive(alloc, slots, due)?;
         self.put_there(due)?;
         target_fits(&due.target);
         length_fits(&self.agenda);
@@ -281,97 +314,142 @@ impl Work {
     }
 
     // All that is due is put in.
-    fn put_all_in<F: Finder>(
-        &mut self,
-        alloc: Global,
-        slots: &[Option<Assumption>],
-    ) -> Result<(), AllocError>
+    fn put_all_in(&mut self, alloc: Global, slots: &Slots) -> Result<(), AllocError>
         requires { Propagates slots.now self.old }
         ensures ok { IfOk result (λ _. CarriesOn slots.now self.old self.new) }
         ensures none_due { IfOk result (λ _. self.new.due.items ≡ []) }
-        ensures survives { Survives slots.now self.old self.new }
+        ensures survives { Survives self.old self.new }
     {
         while let Some(due) = self.due.pop() {
-            self.put_in::<F>(alloc, slots, &due)?;
+            self.put_in(alloc, slots, &due)?;
         }
         Ok(())
     }
 
     // An item is carried out to its end.
-    fn carry_out<F: Finder>(
-        &mut self,
-        alloc: Global,
-        slots: &[Option<Assumption>],
-        every: &EverySlot,
-        item: &Item,
-    ) -> Result<(), AllocError>
+    fn carry_out(&mut self, alloc: Global, slots: &Slots, item: &Item) -> Result<(), AllocError>
         requires { WaitsAlso slots.now item.now self.old }
         ensures ok { IfOk result (λ _. CarriesOn slots.now self.old self.new) }
         ensures none_due { IfOk result (λ _. self.new.due.items ≡ []) }
-        ensures survives { Survives slots.now self.old self.new }
+        ensures survives { Survives self.old self.new }
     {
-        add_unions(&mut self.due, &self.labels, every, item)?;
-        self.put_all_in::<F>(alloc, slots)
+        add_unions(&mut self.due, &self.labels, item)?;
+        self.put_all_in(alloc, slots)
     }
 
     // Until nothing waits.
-    fn settle<P: Picker, F: Finder>(
+    fn settle<P: Picker>(
         &mut self,
         alloc: Global,
-        slots: &[Option<Assumption>],
-        every: &EverySlot,
+        slots: &Slots,
         picker: &mut P,
     ) -> Result<(), AllocError>
         requires { Propagates slots.now self.old }
         ensures ok { IfOk result (λ _. IsDone slots.now self.old self.new) }
-        ensures survives { Survives slots.now self.old self.new }
+        ensures survives { Survives self.old self.new }
     {
-        self.put_all_in::<F>(alloc, slots)?;
+        self.put_all_in(alloc, slots)?;
         'picks: while !self.agenda.is_empty() {
             let place = picker.pick(self.agenda.len());
             let item = self.agenda.take_at(place);
-            self.carry_out::<F>(alloc, slots, every, &item)?;
+            self.carry_out(alloc, slots, &item)?;
         }
         Ok(())
     }
 
-    // What names the slot goes, and so do the facts that were met since.
-    fn take_back(&mut self, met: usize)
+    // A reading begins: its own environment is due at its fact.
+    fn begin_reading(&mut self, slots: &Slots, fact: &Fact) -> Result<(), AllocError>
+        requires reads { stock slots.now self.old.slot ≡ Some (Reading fact.now) }
+        requires exact { IsExactBefore slots.now self.old }
+        ensures ok { IfOk result (λ _. Propagates slots.now self.new) }
+        ensures survives { Survives self.old self.new }
+    {
+        let first = Due {
+            target: Some(*fact),
+            env: made_by(Some(self.slot)),
+        };
+        self.due.push(first)?;
+        Ok(())
+    }
+
+    // A component begins: its inferences are recorded. What they lead to from no fact is due, and the others wait at each
+    // environment of one of their facts.
+    fn begin_part(&mut self, alloc: Global, slots: &Slots) -> Result<(), AllocError>
+        requires works { (part : List Instance) × (stock slots.now self.old.slot ≡ Some (Part part)) }
+        requires exact { IsExactBefore slots.now self.old }
+        ensures ok { IfOk result (λ _. Propagates slots.now self.new) }
+        ensures survives { Survives self.old self.new }
+    {
+        let met = self.labels.met(alloc)?;
+        let found = find_made_by(alloc, slots, &met, self.slot)?;
+        record_all(&mut self.recorded, &found)?;
+        let env = made_by(Some(self.slot));
+        due_from_none(&mut self.due, &found, &env)?;
+        wait_at_each(&mut self.agenda, &self.labels, &found)
+    }
+
+    // The assumption at the slot begins.
+    fn begin(&mut self, alloc: Global, slots: &Slots) -> Result<(), AllocError>
+        requires there { IsSome (stock slots.now self.old.slot) }
+        requires exact { IsExactBefore slots.now self.old }
+        ensures ok { IfOk result (λ _. Propagates slots.now self.new) }
+        ensures survives { Survives self.old self.new }
+    {
+        match slots.at(self.slot).unwrap() {
+            Assumption::Reading(fact) => self.begin_reading(slots, fact),
+            Assumption::Part(_) => self.begin_part(alloc, slots),
+        }
+    }
+
+    // The assumption at the slot is worked in, until nothing waits.
+    fn work_in<P: Picker>(
+        &mut self,
+        alloc: Global,
+        slots: &Slots,
+        picker: &mut P,
+    ) -> Result<(), AllocError>
+        requires there { IsSome (stock slots.now self.old.slot) }
+        requires exact { IsExactBefore slots.now self.old }
+        ensures ok { IfOk result (λ _. IsDone slots.now self.old self.new) }
+        ensures survives { Survives self.old self.new }
+    {
+        self.begin(alloc, slots)?;
+        self.settle(alloc, slots, picker)
+    }
+
+    // What has the slot goes, and so do the facts that were met and the inferences that were recorded since.
+    fn take_back(&mut self, met: usize, recorded: usize)
         ensures labels { EachDrops (λ F. IsTrue (F self.old.slot)) (take met self.old.labels.nodes.items) self.new.labels.nodes.items }
         ensures nogoods { Drops (HasMember self.old.labels.nogoods) (HasMember self.new.labels.nogoods) (λ F. IsTrue (F self.old.slot)) }
-        ensures recorded { self.new.recorded ≡ self.old.recorded }
+        ensures recorded { self.new.recorded.items ≡ take recorded self.old.recorded.items }
         ensures due { self.new.due.items ≡ [] }
         ensures agenda { self.new.agenda ≡ [] }
         ensures slot { self.new.slot ≡ self.old.slot }
     {
         self.labels.take_back(u16::from(self.slot), met);
+        self.recorded.truncate(recorded);
         self.due.clear();
         self.agenda.clear();
     }
 
-    /// One reading more: that at the slot. After an error all is as without it.
-    pub fn assume_reading<P: Picker, F: Finder>(
+    /// One assumption more: that at the slot. After an error all is as without it.
+    pub fn assume<P: Picker>(
         &mut self,
         alloc: Global,
-        slots: &[Option<Assumption>],
-        every: &EverySlot,
-        fact: &Fact,
+        slots: &Slots,
         picker: &mut P,
     ) -> Result<(), AllocError>
-        requires reads { stock slots.now self.old.slot ≡ Some (Reading fact.now) }
+        requires there { IsSome (stock slots.now self.old.slot) }
         requires exact { IsExactBefore slots.now self.old }
         ensures ok { IfOk result (λ _. IsDone slots.now self.old self.new) }
+        ensures once { IfOk result (λ _. AreDistinct (facts_of self.new.labels.nodes.items)) }
         ensures err { IfErr result (λ _. IsTakenBack slots.now self.old self.new) }
     {
         let met = self.labels.nodes.len();
-        let first = Due {
-            target: Some(*fact),
-            env: Env::empty().with(u16::from(self.slot)),
-        };
-        self.due.push(first)?;
-        let outcome = self.settle::<P, F>(alloc, slots, every, picker);
+        let recorded = self.recorded.len();
+        let outcome = self.work_in(alloc, slots, picker);
         if outcome.is_err() {
-            self.take_back(met);
+            self.take_back(met, recorded);
         }
         outcome
     }

@@ -1,5 +1,5 @@
 // Nogoods.
-ghost use Rattle.std.specs.Prelude.{◌≡◌, ◌<◌, ◌↔◌, IsTrue, IfOk, OnErr, IfSome, Some, Ok, []};
+ghost use Rattle.std.specs.Prelude.{◌≡◌, ◌<◌, ◌↔◌, IsTrue, OnErr, IfSome, Some, Ok, []};
 ghost use Rattle.std.specs.Option.{ForSome, option_copied};
 ghost use Rattle.environment_sets.specs.Members.{members, sets, HasMember};
 ghost use Rattle.environment_sets.specs.Orders.{ListsAll, IsOrder};
@@ -49,6 +49,13 @@ impl Nogoods {
         self.antichain.insert(env)
     }
 
+    /// The members, in no order that is told.
+    pub fn members(&self) -> &[Env]
+        ensures { result.now ≡ self.now }
+    {
+        self.antichain.members()
+    }
+
     /// Whether a member is a subset of the environment.
     pub fn covers(&self, env: &Env) -> bool
         ensures covered { IsTrue result ↔ Covers (HasMember self.now) (members env.now) }
@@ -77,15 +84,5 @@ impl Nogoods {
         ensures falls { IfSome result (λ e. envs_left order.now self.now mask.now (Some e) < envs_left order.now self.now mask.now (option_copied last.entry)) }
     {
         self.antichain.next_after(order, mask, last)
-    }
-
-    /// The same members.
-    pub fn copy(&self, alloc: Global) -> Result<Nogoods, OutOfMemory>
-        ensures { IfOk result (λ copy. copy ≡ self.now) }
-    {
-        match self.antichain.copy(alloc) {
-            Ok(antichain) => Ok(Nogoods { antichain }),
-            Err(stop) => Err(stop),
-        }
     }
 }

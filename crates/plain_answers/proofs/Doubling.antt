@@ -1,26 +1,26 @@
 -- All sets of names, one name more at a time.
-use Rattle.std.proofs.Common.{◌≡◌, ◌⊎◌, inl, inr, ℕ, ◌+◌, ◌<◌, Bool, true, false, ◌||◌, ◌&&◌, ◌==◌, not, nat_lt, IsTrue, IsSome, is_some, List, [], ◌∷◌, ◌++◌, length, take, get_or, Option, Some, None, refl, sym, ap, ap₂, subst, ◌∙◌, true≢false, add-one, arith}
-use Rattle.std.specs.Option.{option_map}
+use Rattle.std.proofs.Common.{◌≡◌, ◌⊎◌, inl, inr, ℕ, ◌+◌, ◌<◌, Bool, true, false, ◌||◌, ◌&&◌, ◌==◌, not, nat_lt, IsTrue, IsSome, is_some, List, [], ◌∷◌, ◌++◌, length, take, get_or, Option, Some, None, slice_get, refl, sym, ap, ap₂, subst, ◌∙◌, true≢false, add-one, arith}
 use Rattle.std.proofs.Math.Path.{fun_ext}
 use Rattle.std.proofs.Math.Seq.{take-suc}
 use Rattle.std.proofs.lemmas.List.{map-append}
+use Rattle.std.proofs.lemmas.Option.{slice_get_within}
 use Rattle.std.proofs.lemmas.Bool.{cases_lt}
 use Rattle.std.proofs.lemmas.Bool.Decides.{nat_tests}
 use Rattle.environment_sets.specs.Sets.{Set}
 use Rattle.environment_sets.specs.Lists.{IsIn, AreDistinct, IsRoster}
 use Rattle.circuit_model.specs.declared.model.Cell.{Cell}
+use Rattle.circuit_model.specs.declared.model.Fact.{Fact}
 use Rattle.circuit_model.specs.declared.model.Assumption.TheVariants.{Reading}
 use Rattle.circuit_model.specs.Closure.{fact}
-use Rattle.circuit_model.specs.Kinds.{cell_at}
 use Rattle.circuit_model.specs.Diagnoses.{Place, AtPart, AtCell}
-use Rattle.circuit_model.specs.Present.{Setup, is_cell, reading_in, IsLawful, IsFactOf}
+use Rattle.circuit_model.specs.Present.{Setup, is_cell, reading_in, IsLawful}
 use Rattle.circuit_model.specs.Stock.{IsEnvironment}
 use Rattle.circuit_model.specs.Whole.{stock}
 use Rattle.present_closure.specs.declared.environment.Environment.{Environment}
-use Rattle.present_closure.specs.Finding.{members}
+use Rattle.present_closure.specs.Members.{members}
 use Rattle.present_closure.specs.Sets.{IsWith, IsEmpty}
-use Rattle.present_closure.proofs.Everything.{is_some-part}
-use Rattle.present_closure.proofs.Measured.{measured_fact}
+use Rattle.present_closure.proofs.Environments.{is_some-map, is_some-part}
+use Rattle.present_closure.proofs.Measured.{rising_apart, reading_in_at, reading_at_place}
 use Rattle.plain_answers.specs.Subsets.{sets, IsWithin, IsPart, IsPartOrCell, is_same, adding, doubling}
 use Rattle.plain_answers.proofs.KeptLists.{same_roster}
 
@@ -215,36 +215,24 @@ parts_doubled n Es all = doubled_roster (AtPart n) (IsPart n) (IsPart (n + 1)) w
   only (AtPart k) h = elim (cases_lt k n) [ inl low ↦ inl low | inr high ↦ let same : k ≡ n = omega arith in inr (ap AtPart same) ]
   only (AtCell c) h = absurd h
 
-module _ (s : Setup) (n : ℕ) (Es : List (Set Place)) (all : IsRoster (IsWithin (IsPartOrCell s n)) Es) where
+module _ (s : Setup) (lawful : IsLawful s) (n : ℕ) (f : Fact) (at : slice_get s.readings n ≡ Some f) where
   wider_cell : (k : Place) → IsPartOrCell s n k → IsPartOrCell s (n + 1) k
   wider_cell (AtPart k) h = h
-  wider_cell (AtCell c) h = let low = h.1 in (h.0, omega arith, h.2)
+  wider_cell (AtCell c) h = let low = h.2 in (h.0, h.1, omega arith, h.3, h.4)
 
-  cell_is : (c : Cell) → c.cycle ≡ 0 → c.net ≡ n → c ≡ cell_at 0 n
-  cell_is c cycle net = ap₂ (λ (n t : ℕ). let d : Cell = record { net = n; cycle = t } in d) net cycle
-
-  -- one measured net more
-  pub cell_doubled : (v : ℕ) → reading_in s.readings (cell_at 0 n) ≡ Some v → IsRoster (IsWithin (IsPartOrCell s (n + 1))) (doubling (AtCell (cell_at 0 n)) Es)
-  cell_doubled v is = doubled_roster (AtCell (cell_at 0 n)) (IsPartOrCell s n) (IsPartOrCell s (n + 1)) wider_cell (refl, omega arith, ap is_some is) only (λ h. let low = h.1 in omega arith) Es all where
-    only : (k : Place) → IsPartOrCell s (n + 1) k → IsPartOrCell s n k ⊎ (k ≡ AtCell (cell_at 0 n))
+  -- one measured cell more
+  pub cell_doubled : (Es : List (Set Place)) → IsRoster (IsWithin (IsPartOrCell s n)) Es → IsRoster (IsWithin (IsPartOrCell s (n + 1))) (doubling (AtCell f.cell) Es)
+  cell_doubled Es all = doubled_roster (AtCell f.cell) (IsPartOrCell s n) (IsPartOrCell s (n + 1)) wider_cell (n, f, omega arith, at, refl) only (λ h. rising_apart s.readings lawful.rising h.0 n h.1 f h.2 h.3 at h.4) Es all where
+    only : (k : Place) → IsPartOrCell s (n + 1) k → IsPartOrCell s n k ⊎ (k ≡ AtCell f.cell)
     only (AtPart k) h = inl h
-    only (AtCell c) h = elim (cases_lt c.net n) [
-      | inl low ↦ inl (h.0, low, h.2)
-      | inr high ↦ let below = h.1 in let same : c.net ≡ n = omega arith in inr (ap AtCell (cell_is c h.0 same))
-    ]
-
-  -- one net more that is not measured
-  pub cell_passed : reading_in s.readings (cell_at 0 n) ≡ None → IsRoster (IsWithin (IsPartOrCell s (n + 1))) Es
-  cell_passed is = same_roster (IsWithin (IsPartOrCell s n)) (IsWithin (IsPartOrCell s (n + 1))) Es (λ E within k m. wider_cell k (within k m)) (λ E within k m. narrower k (within k m)) all where
-    narrower : (k : Place) → IsPartOrCell s (n + 1) k → IsPartOrCell s n k
-    narrower (AtPart k) h = h
-    narrower (AtCell c) h = elim (cases_lt c.net n) [
-      | inl low ↦ (h.0, low, h.2)
+    only (AtCell c) h = elim (cases_lt h.0 n) [
+      | inl low ↦ inl (h.0, h.1, low, h.3, h.4)
       | inr high ↦
-          let below = h.1 in
-          let same : c.net ≡ n = omega arith in
-          let P : ℕ → Type 0 = λ n. IsTrue (is_some (reading_in s.readings (cell_at 0 n))) in
-          absurd (true≢false (sym (subst P same h.2) ∙ ap is_some is))
+          let below = h.2 in
+          let last : h.0 ≡ n = omega arith in
+          let there : slice_get s.readings n ≡ Some h.1 = subst (λ (k : ℕ). slice_get s.readings k ≡ Some h.1) last h.3 in
+          let same : h.1 ≡ f = cc in
+          inr (ap AtCell (sym h.4 ∙ ap (λ (f : Fact). f.cell) same))
     ]
 
 -- components alone
@@ -256,29 +244,22 @@ parts_first s Es all = same_roster (IsWithin (IsPart (length s.parts))) (IsWithi
 
   from : (k : Place) → IsPartOrCell s 0 k → IsPart (length s.parts) k
   from (AtPart k) h = h
-  from (AtCell c) h = let low = h.1 in absurd (omega arith)
+  from (AtCell c) h = let low = h.2 in absurd (omega arith)
 
 -- all components and all measured cells are the stock
-pub stock_last : (s : Setup) → IsLawful s → s.cycles ≡ 1 → (Es : List (Set Place)) → IsRoster (IsWithin (IsPartOrCell s (length s.nets))) Es → IsRoster (IsEnvironment (stock s)) Es
-stock_last s lawful one Es all = same_roster (IsWithin (IsPartOrCell s (length s.nets))) (IsEnvironment (stock s)) Es (λ E within k m. to k (within k m)) (λ E within k m. from k (within k m)) all where
-  is_some-map : {X Y : Type 0} (f : X → Y) (o : Option X) → is_some (option_map f o) ≡ is_some o
-  is_some-map f None = refl
-  is_some-map f (Some x) = refl
-
-  to : (k : Place) → IsPartOrCell s (length s.nets) k → IsSome (stock s k)
+pub stock_last : (s : Setup) → IsLawful s → (Es : List (Set Place)) → IsRoster (IsWithin (IsPartOrCell s (length s.readings))) Es → IsRoster (IsEnvironment (stock s)) Es
+stock_last s lawful Es all = same_roster (IsWithin (IsPartOrCell s (length s.readings))) (IsEnvironment (stock s)) Es (λ E within k m. to k (within k m)) (λ E within k m. from k (within k m)) all where
+  to : (k : Place) → IsPartOrCell s (length s.readings) k → IsSome (stock s k)
   to (AtPart k) h = let test : nat_lt k (length s.parts) ≡ true = grind (arith, nat_tests) in is_some-part s k ∙ test
   to (AtCell c) h =
-      let P : ℕ → Type 0 = λ t. let d : Cell = record { net = c.net; cycle = t } in IsTrue (is_some (reading_in s.readings d)) in
-      is_some-map (λ v. Reading (fact c v)) (reading_in s.readings c) ∙ subst P (sym h.0) h.2
+      let measured : reading_in s.readings c ≡ Some h.1.value = ap (λ (c : Cell). reading_in s.readings c) (sym h.4) ∙ reading_in_at s lawful h.0 h.1 h.3 in
+      is_some-map (λ v. Reading (fact c v)) (reading_in s.readings c) ∙ ap is_some measured
 
-  from : (k : Place) → IsSome (stock s k) → IsPartOrCell s (length s.nets) k
+  from : (k : Place) → IsSome (stock s k) → IsPartOrCell s (length s.readings) k
   from (AtPart k) h = let test : nat_lt k (length s.parts) ≡ true = sym (is_some-part s k) ∙ h in grind (arith, nat_tests)
   from (AtCell c) h = by_reading (reading_in s.readings c) refl (sym (is_some-map (λ v. Reading (fact c v)) (reading_in s.readings c)) ∙ h) where
-    by_reading : (o : Option ℕ) → reading_in s.readings c ≡ o → is_some (reading_in s.readings c) ≡ true → IsPartOrCell s (length s.nets) (AtCell c)
+    by_reading : (o : Option ℕ) → reading_in s.readings c ≡ o → is_some (reading_in s.readings c) ≡ true → IsPartOrCell s (length s.readings) (AtCell c)
     by_reading None is some = absurd (true≢false (sym some ∙ ap is_some is))
     by_reading (Some v) is some =
-        let f : IsFactOf s (fact c v) = measured_fact s lawful c v is in
-        let low = f.cycle in
-        let zeroth : c.cycle ≡ 0 = omega (arith, low, one) in
-        let P : ℕ → Type 0 = λ t. let d : Cell = record { net = c.net; cycle = t } in IsTrue (is_some (reading_in s.readings d)) in
-        (zeroth, f.net, subst P zeroth some)
+        let r : (k : ℕ) × (f : Fact) × (slice_get s.readings k ≡ Some f) × (f.cell ≡ c) × (f.value ≡ v) = reading_at_place s c v is in
+        (r.0, r.1, slice_get_within s.readings r.0 r.1 r.2, r.2, r.3)

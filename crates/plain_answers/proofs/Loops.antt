@@ -6,7 +6,7 @@ use Rattle.environment_sets.specs.Sets.{Set, ◌⊆◌}
 use Rattle.environment_sets.specs.Lists.{IsIn}
 use Rattle.circuit_model.specs.Diagnoses.{Place}
 use Rattle.present_closure.specs.declared.environment.Environment.{Environment}
-use Rattle.present_closure.specs.Finding.{members}
+use Rattle.present_closure.specs.Members.{members}
 use Rattle.present_closure.specs.Sets.{IsWith}
 use Rattle.plain_answers.specs.Subsets.{sets, adding, doubling, Keeps}
 use Rattle.plain_answers.specs.Tests.{IsDecided, IsLeastIn}

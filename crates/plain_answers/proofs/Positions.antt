@@ -15,10 +15,9 @@ use Rattle.circuit_model.specs.Closure.{fact}
 use Rattle.circuit_model.specs.Diagnoses.{Place, AtPart, AtCell, with_readings, AreRefuted, IsConflict, IsDiagnosis}
 use Rattle.circuit_model.specs.Present.{Setup, reading_in, circuit_of}
 use Rattle.present_closure.specs.declared.environment.Environment.{Environment}
-use Rattle.present_closure.specs.Everything.{IsPartsOf, IsWithReadings}
-use Rattle.present_closure.specs.Finding.{members}
+use Rattle.present_closure.specs.Members.{members, IsPartsOf, IsWithReadings}
 use Rattle.present_closure.specs.Sets.{IsEmpty, IsWith}
-use Rattle.present_closure.proofs.Everything.{is_some-map}
+use Rattle.present_closure.proofs.Environments.{is_some-map}
 use Rattle.plain_answers.specs.Subsets.{sets, IsWithin, IsPart, Keeps}
 use Rattle.plain_answers.specs.Tests.{positions, position_sets, AreParts, AreOthers, IsDecided, IsRepaired, IsLeastIn}
 use Rattle.plain_answers.proofs.KeptLists.{kept_roster, same_roster}

@@ -1,11 +1,11 @@
 -- Lists of sets of assumptions.
-use Rattle.std.specs.Prelude.{◌≡◌, ◌⊎◌, ◌||◌, ◌==◌, ℕ, ◌<◌, Bool, false, IsTrue, is_some, List, [], ◌∷◌, map, length}
+use Rattle.std.specs.Prelude.{◌≡◌, ◌⊎◌, ◌||◌, ◌==◌, ℕ, ◌<◌, Bool, false, IsTrue, List, [], ◌∷◌, map, length, Some, slice_get}
 use Rattle.environment_sets.specs.Sets.{Set}
-use Rattle.circuit_model.specs.Kinds.{cell_at}
+use Rattle.circuit_model.specs.declared.model.Fact.{Fact}
 use Rattle.circuit_model.specs.Diagnoses.{Place, AtPart, AtCell}
-use Rattle.circuit_model.specs.Present.{Setup, MOST_PARTS, MOST_NETS, is_cell, reading_in}
+use Rattle.circuit_model.specs.Present.{Setup, MOST_CYCLES, MOST_NETS, MOST_PARTS, is_cell}
 use Rattle.present_closure.specs.declared.environment.Environment.{Environment}
-use Rattle.present_closure.specs.Finding.{members}
+use Rattle.present_closure.specs.Members.{members}
 use Rattle.plain_answers.specs.declared.subsets.Named.{Named}
 use Rattle.plain_answers.specs.declared.subsets.Named.TheVariants as named
 
@@ -21,18 +21,18 @@ abbrev pub IsPart : ℕ → Place → Type 0
 IsPart n (AtPart place) = place < n
 IsPart n (AtCell c) = ⊥
 
--- a component, or the measured cell of one of the first n nets
+-- a component, or the cell of one of the first n measurements
 abbrev pub IsPartOrCell : Setup → ℕ → Place → Type 0
 IsPartOrCell s n (AtPart place) = place < length s.parts
-IsPartOrCell s n (AtCell c) = (c.cycle ≡ 0) × (c.net < n) × IsTrue (is_some (reading_in s.readings (cell_at 0 c.net)))
+IsPartOrCell s n (AtCell c) = (k : ℕ) × (f : Fact) × (k < n) × (slice_get s.readings k ≡ Some f) × (f.cell ≡ c)
 
 abbrev pub place_of : Named → Place
 place_of (named.Part place) = AtPart place
-place_of (named.Net net) = AtCell (cell_at 0 net)
+place_of (named.Cell cell) = AtCell cell
 
 abbrev pub IsNamed : Named → Type 0
 IsNamed (named.Part place) = place < MOST_PARTS
-IsNamed (named.Net net) = net < MOST_NETS
+IsNamed (named.Cell cell) = (cell.net < MOST_NETS) × (cell.cycle < MOST_CYCLES)
 
 abbrev pub is_same : Place → Place → Bool
 is_same (AtPart k) (AtPart n) = k == n

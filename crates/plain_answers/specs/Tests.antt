@@ -9,7 +9,7 @@ use Rattle.circuit_model.specs.Diagnoses.{Place, AtPart, AtCell, AreRefuted}
 use Rattle.circuit_model.specs.Present.{Setup, circuit_of}
 use Rattle.circuit_model.specs.Whole.{stock}
 use Rattle.present_closure.specs.declared.environment.Environment.{Environment}
-use Rattle.present_closure.specs.Finding.{members}
+use Rattle.present_closure.specs.Members.{members}
 use Rattle.plain_answers.specs.declared.keeping.Test.{Test}
 use Rattle.plain_answers.specs.declared.keeping.Test.TheVariants as test
 

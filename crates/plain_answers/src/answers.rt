@@ -1,6 +1,6 @@
 // Labels, nogoods, conflicts and diagnoses.
 
-ghost use Rattle.std.specs.Prelude.{◌≡◌, IfOk};
+ghost use Rattle.std.specs.Prelude.{IfOk};
 ghost use Rattle.environment_sets.specs.Lists.{IsRoster};
 ghost use Rattle.circuit_model.specs.Stock.{IsInLabel, IsNogood};
 ghost use Rattle.circuit_model.specs.Whole.{stock};
@@ -15,10 +15,9 @@ use circuit_model::{Fact, Present};
 use present_closure::Environment;
 use std::alloc::{AllocError, Global};
 
-/// The label of a fact in a present of one cycle (de Kleer 1986): all of its environments are tried, in time that is
+/// The label of a fact in a present (de Kleer 1986): all of its environments are tried, in time that is
 /// exponential in the number of components and measurements.
 pub fn label(alloc: Global, present: &Present, fact: Fact) -> Result<Vec<Environment>, AllocError>
-    requires { present.now.cycles ≡ 1 }
     ensures { IfOk result (λ es. IsRoster (IsInLabel (stock present.now) fact) (sets es.items)) }
 {
     let all = environments(alloc, present)?;
@@ -26,9 +25,8 @@ pub fn label(alloc: Global, present: &Present, fact: Fact) -> Result<Vec<Environ
     least(alloc, &having)
 }
 
-/// The nogoods of a present of one cycle, in time that is exponential in the number of components and measurements.
+/// The nogoods of a present, in time that is exponential in the number of components and measurements.
 pub fn nogoods(alloc: Global, present: &Present) -> Result<Vec<Environment>, AllocError>
-    requires { present.now.cycles ≡ 1 }
     ensures { IfOk result (λ es. IsRoster (IsNogood (stock present.now)) (sets es.items)) }
 {
     let all = environments(alloc, present)?;
@@ -36,10 +34,9 @@ pub fn nogoods(alloc: Global, present: &Present) -> Result<Vec<Environment>, All
     least(alloc, &clashing)
 }
 
-/// The conflicts of a present of one cycle (Reiter 1987), as sets of components, in time that is exponential in the
+/// The conflicts of a present (Reiter 1987), as sets of components, in time that is exponential in the
 /// number of components.
 pub fn conflicts(alloc: Global, present: &Present) -> Result<Vec<Environment>, AllocError>
-    requires { present.now.cycles ≡ 1 }
     ensures { IfOk result (λ es. IsRoster (IsConflict (circuit_of present.now)) (position_sets es.items)) }
 {
     let all = part_sets(alloc, present)?;
@@ -47,10 +44,9 @@ pub fn conflicts(alloc: Global, present: &Present) -> Result<Vec<Environment>, A
     least(alloc, &refuted)
 }
 
-/// The diagnoses of a present of one cycle (Reiter 1987), as sets of components, in time that is exponential in the
+/// The diagnoses of a present (Reiter 1987), as sets of components, in time that is exponential in the
 /// number of components.
 pub fn diagnoses(alloc: Global, present: &Present) -> Result<Vec<Environment>, AllocError>
-    requires { present.now.cycles ≡ 1 }
     ensures { IfOk result (λ es. IsRoster (IsDiagnosis (circuit_of present.now)) (position_sets es.items)) }
 {
     let all = part_sets(alloc, present)?;

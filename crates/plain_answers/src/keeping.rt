@@ -6,7 +6,7 @@ ghost use Rattle.circuit_model.specs.Diagnoses.{AreRefuted};
 ghost use Rattle.circuit_model.specs.Present.{circuit_of};
 ghost use Rattle.circuit_model.specs.Stock.{IsRefutedBy};
 ghost use Rattle.circuit_model.specs.Whole.{stock};
-ghost use Rattle.present_closure.specs.Finding.{members};
+ghost use Rattle.present_closure.specs.Members.{members};
 ghost use Rattle.plain_answers.specs.Subsets.{sets, Keeps};
 ghost use Rattle.plain_answers.specs.Tests.{Passes, HasFact, IsLeastIn, IsDecided, IsRepaired, AreParts, AreOthers, positions};
 
@@ -34,7 +34,6 @@ pub fn keep(
     test: Test,
     all: &[Environment],
 ) -> Result<Vec<Environment>, AllocError>
-    requires { present.now.cycles ≡ 1 }
     ensures { IfOk result (λ es. Keeps (Passes present.now test) (sets all.now) (sets es.items)) }
 {
     let mut kept = Vec::new(alloc);
@@ -52,7 +51,6 @@ fn passes(
     test: Test,
     one: &Environment,
 ) -> Result<bool, AllocError>
-    requires { present.now.cycles ≡ 1 }
     ensures { IfOk result (λ b. IsDecided b (Passes present.now test (members one.now))) }
 {
     match test {
@@ -64,7 +62,6 @@ fn passes(
 }
 
 fn has(alloc: Global, present: &Present, fact: Fact, one: &Environment) -> Result<bool, AllocError>
-    requires { present.now.cycles ≡ 1 }
     ensures { IfOk result (λ b. IsDecided b (HasFact present.now fact (members one.now))) }
 {
     match close_environment(alloc, present, one)? {
@@ -83,7 +80,6 @@ fn is_word(found: Option<u64>, value: u64) -> bool
 }
 
 fn clashes(alloc: Global, present: &Present, one: &Environment) -> Result<bool, AllocError>
-    requires { present.now.cycles ≡ 1 }
     ensures { IfOk result (λ b. IsDecided b (IsRefutedBy (stock present.now) (members one.now))) }
 {
     match close_environment(alloc, present, one)? {
@@ -93,7 +89,6 @@ fn clashes(alloc: Global, present: &Present, one: &Environment) -> Result<bool, 
 }
 
 fn refuted(alloc: Global, present: &Present, one: &Environment) -> Result<bool, AllocError>
-    requires { present.now.cycles ≡ 1 }
     ensures { IfOk result (λ b. IsDecided b (AreRefuted (circuit_of present.now) (positions (members one.now)))) }
 {
     let alone = one.parts_alone();
@@ -101,7 +96,6 @@ fn refuted(alloc: Global, present: &Present, one: &Environment) -> Result<bool, 
 }
 
 fn repaired(alloc: Global, present: &Present, one: &Environment) -> Result<bool, AllocError>
-    requires { present.now.cycles ≡ 1 }
     ensures { IfOk result (λ b. IsDecided b (IsRepaired present.now (positions (members one.now)))) }
 {
     let others = other_parts(present, one);
@@ -111,8 +105,7 @@ fn repaired(alloc: Global, present: &Present, one: &Environment) -> Result<bool,
 
 /// Whether the components contradict the measurements.
 fn are_refuted(alloc: Global, present: &Present, parts: &Environment) -> Result<bool, AllocError>
-    requires one_cycle { present.now.cycles ≡ 1 }
-    requires parts { AreParts (members parts.now) }
+    requires { AreParts (members parts.now) }
     ensures { IfOk result (λ b. IsDecided b (AreRefuted (circuit_of present.now) (positions (members parts.now)))) }
 {
     let all = parts.with_readings_of(present);

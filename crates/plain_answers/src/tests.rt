@@ -1,5 +1,5 @@
 // Known circuits with their labels, nogoods, conflicts and diagnoses.
-ghost use Rattle.std.specs.Prelude.{◌≡◌, ◌<◌, ◌≤◌, length, map, None, IsTrue};
+ghost use Rattle.std.specs.Prelude.{◌≡◌, ◌<◌, length, map, None, IsTrue};
 ghost use Rattle.std.specs.List.{All};
 ghost use Rattle.circuit_model.specs.Kinds.{RepeatsLast, are_widths, fits_value};
 ghost use Rattle.circuit_model.specs.Present.{MOST_PARTS, width_of, named_in};
@@ -41,7 +41,7 @@ fn polybox(rt: &impl Abort, alloc: Global) -> Result<Present, Fail> {
     add(rt, alloc, &mut present, b"A1", Kind::Add, [5, 6, 8])?;
     add(rt, alloc, &mut present, b"A2", Kind::Add, [6, 7, 9])?;
     for (net, value) in POLYBOX_WORDS {
-        measure(rt, &mut present, net, value);
+        measure(rt, &mut present, at(net, 0), value);
     }
     Ok(present)
 }
@@ -49,7 +49,6 @@ fn polybox(rt: &impl Abort, alloc: Global) -> Result<Present, Fail> {
 #[test]
 fn polybox_labels(rt: HostRuntime) -> Result<(), Fail> {
     let present = polybox(&rt, rt.alloc())?;
-    assert!(rt; present.cycles() == 1);
     let four = label(rt.alloc(), &present, word(5, 4))?;
     assert_eq!(rt; four.len(), 2);
     assert!(rt; lists(&rt, &four, &[1, 3], &[1, 3, 8]));
@@ -64,7 +63,6 @@ fn polybox_labels(rt: HostRuntime) -> Result<(), Fail> {
 #[test]
 fn polybox_conflicts(rt: HostRuntime) -> Result<(), Fail> {
     let present = polybox(&rt, rt.alloc())?;
-    assert!(rt; present.cycles() == 1);
     let clashing = conflicts(rt.alloc(), &present)?;
     assert_eq!(rt; clashing.len(), 2);
     assert!(rt; lists(&rt, &clashing, &[0, 1, 3], &[]));
@@ -81,14 +79,9 @@ fn polybox_conflicts(rt: HostRuntime) -> Result<(), Fail> {
 #[test]
 fn zero_in_a_multiplier(rt: HostRuntime) -> Result<(), Fail> {
     for (value, sources) in [(5, 0), (0, 2)] {
-        let mut present = Present::open(rt.alloc())?;
-        declare(&rt, &mut present, b"A", 4)?;
-        declare(&rt, &mut present, b"B", 4)?;
-        declare(&rt, &mut present, b"Z", 8)?;
-        add(&rt, rt.alloc(), &mut present, b"M", Kind::Mul, [0, 1, 2])?;
-        measure(&rt, &mut present, 0, 0);
-        measure(&rt, &mut present, 2, value);
-        assert!(rt; present.cycles() == 1);
+        let mut present = product(&rt, rt.alloc())?;
+        measure(&rt, &mut present, at(0, 0), 0);
+        measure(&rt, &mut present, at(2, 0), value);
         let clashing = conflicts(rt.alloc(), &present)?;
         assert_eq!(rt; lists(&rt, &clashing, &[0], &[]), value == 5);
         let zero = label(rt.alloc(), &present, word(2, 0))?;
@@ -106,10 +99,8 @@ fn one_net_twice(rt: HostRuntime) -> Result<(), Fail> {
     declare(&rt, &mut present, b"X", 4)?;
     declare(&rt, &mut present, b"Z", 4)?;
     add(&rt, rt.alloc(), &mut present, b"G", Kind::Xor, [0, 0, 1])?;
-    assert!(rt; present.cycles() == 1);
     assert_eq!(rt; label(rt.alloc(), &present, word(1, 0))?.len(), 0);
-    measure(&rt, &mut present, 0, 5);
-    assert!(rt; present.cycles() == 1);
+    measure(&rt, &mut present, at(0, 0), 5);
     let zero = label(rt.alloc(), &present, word(1, 0))?;
     assert_eq!(rt; zero.len(), 1);
     assert!(rt; lists(&rt, &zero, &[0], &[0]));
@@ -136,24 +127,97 @@ fn clash_without_measurements(rt: HostRuntime) -> Result<(), Fail> {
         Kind::Const { value: 2 },
         [0, 0, 0],
     )?;
-    assert!(rt; present.cycles() == 1);
     let one = label(rt.alloc(), &present, word(0, 1))?;
     assert_eq!(rt; one.len(), 1);
     assert!(rt; lists(&rt, &one, &[0], &[]));
+    let two = label(rt.alloc(), &present, word(0, 2))?;
+    assert_eq!(rt; two.len(), 1);
+    assert!(rt; lists(&rt, &two, &[1], &[]));
     let clashing = nogoods(rt.alloc(), &present)?;
     assert_eq!(rt; clashing.len(), 1);
     assert!(rt; lists(&rt, &clashing, &[0, 1], &[]));
+    let contradicting = conflicts(rt.alloc(), &present)?;
+    assert_eq!(rt; contradicting.len(), 1);
+    assert!(rt; lists(&rt, &contradicting, &[0, 1], &[]));
     Ok(())
 }
 
-fn word(net: u16, value: u64) -> Fact {
-    Fact {
-        cell: Cell { net, cycle: 0 },
-        value,
-    }
+// Nets A and B of four bits and Z of eight, and Z is the product of A and B.
+fn product(rt: &impl Abort, alloc: Global) -> Result<Present, Fail> {
+    let mut present = Present::open(alloc)?;
+    declare(rt, &mut present, b"A", 4)?;
+    declare(rt, &mut present, b"B", 4)?;
+    declare(rt, &mut present, b"Z", 8)?;
+    add(rt, alloc, &mut present, b"M", Kind::Mul, [0, 1, 2])?;
+    Ok(present)
 }
 
-// Whether the components and the measured nets are one of the environments.
+#[test]
+fn zero_before_the_product_is_measured(rt: HostRuntime) -> Result<(), Fail> {
+    let mut present = product(&rt, rt.alloc())?;
+    measure(&rt, &mut present, at(0, 0), 0);
+    let zero = label(rt.alloc(), &present, word(2, 0))?;
+    assert_eq!(rt; zero.len(), 1);
+    assert!(rt; lists(&rt, &zero, &[0], &[0]));
+    for value in 0..16 {
+        assert_eq!(rt; label(rt.alloc(), &present, word(1, value))?.len(), 0);
+    }
+    Ok(())
+}
+
+// The register R from D to Q, both of four bits, over three cycles.
+fn register(rt: &impl Abort, alloc: Global) -> Result<Present, Fail> {
+    let mut present = Present::open(alloc)?;
+    present.set_cycles(3);
+    declare(rt, &mut present, b"D", 4)?;
+    declare(rt, &mut present, b"Q", 4)?;
+    add(
+        rt,
+        alloc,
+        &mut present,
+        b"R",
+        Kind::Reg { reset: 0 },
+        [0, 1, 1],
+    )?;
+    measure(rt, &mut present, at(0, 0), 5);
+    measure(rt, &mut present, at(0, 1), 6);
+    Ok(present)
+}
+
+#[test]
+fn register_over_three_cycles(rt: HostRuntime) -> Result<(), Fail> {
+    let mut present = register(&rt, rt.alloc())?;
+    let at_first = label(rt.alloc(), &present, fact(at(1, 0), 0))?;
+    assert_eq!(rt; at_first.len(), 1);
+    assert!(rt; lists(&rt, &at_first, &[0], &[]));
+    let next = label(rt.alloc(), &present, fact(at(1, 1), 5))?;
+    assert_eq!(rt; next.len(), 1);
+    assert!(rt; lists(&rt, &next, &[0], &[0]));
+    measure(&rt, &mut present, at(1, 2), 7);
+    let clashing = conflicts(rt.alloc(), &present)?;
+    assert_eq!(rt; clashing.len(), 1);
+    assert!(rt; lists(&rt, &clashing, &[0], &[]));
+    let repairs = diagnoses(rt.alloc(), &present)?;
+    assert_eq!(rt; repairs.len(), 1);
+    assert!(rt; lists(&rt, &repairs, &[0], &[]));
+    Ok(())
+}
+
+fn at(net: u16, cycle: u8) -> Cell
+    ensures { result ≡ record { net = net; cycle = cycle } }
+{
+    Cell { net, cycle }
+}
+
+fn fact(cell: Cell, value: u64) -> Fact {
+    Fact { cell, value }
+}
+
+fn word(net: u16, value: u64) -> Fact {
+    fact(at(net, 0), value)
+}
+
+// Whether the components, with the nets measured at the first cycle, are one of the environments.
 fn lists(rt: &impl Abort, all: &[Environment], parts: &[u16], nets: &[u16]) -> bool {
     let mut wanted = Environment::empty();
     for place in parts {
@@ -162,7 +226,7 @@ fn lists(rt: &impl Abort, all: &[Environment], parts: &[u16], nets: &[u16]) -> b
     }
     for net in nets {
         assert!(rt; *net < limits::MOST_NETS);
-        wanted = wanted.with_net(*net);
+        wanted = wanted.with_cell(at(*net, 0));
     }
     all.iter()
         .any(|one| one.is_subset(&wanted) && wanted.is_subset(one))
@@ -251,10 +315,10 @@ fn width_at(present: &Present, net: u16) -> Width
     present.net_at(net).1
 }
 
-fn measure(rt: &impl Abort, present: &mut Present, net: u16, value: u64) {
-    let cell = Cell { net, cycle: 0 };
-    assert!(rt; net < present.nets());
-    assert!(rt; present.net_at(net).1.fits(value));
+fn measure(rt: &impl Abort, present: &mut Present, cell: Cell, value: u64) {
+    assert!(rt; cell.net < present.nets());
+    assert!(rt; cell.cycle < present.cycles());
+    assert!(rt; present.net_at(cell.net).1.fits(value));
     assert!(rt; present.readings() < limits::MOST_READINGS);
     assert!(rt; present.reading_at(cell).is_none());
     present.set_reading(Fact { cell, value });

@@ -1,8 +1,7 @@
--- The instances of a present of one cycle.
-use Rattle.std.proofs.Common.{◌≡◌, ℕ, zero, suc, ◌+◌, ◌<◌, List, [], ◌∷◌, length, map, Some, IsTrue, slice_get, slice_index, refl, sym, ap, subst, ◌∙◌, below_more, arith}
+-- The instances of a present.
+use Rattle.std.proofs.Common.{◌≡◌, ℕ, zero, suc, ◌+◌, ◌-◌, ◌<◌, ◌≤◌, ◌⊎◌, inl, inr, List, [], ◌∷◌, length, map, Some, IsTrue, slice_get, refl, sym, ap, subst, ◌∙◌, below_more, arith}
 use Rattle.std.specs.List.{All, Contains}
 use Rattle.std.specs.Option.{option_map}
-use Rattle.std.proofs.lemmas.List.{length-map, get_or-map}
 use Rattle.std.proofs.lemmas.Option.{slice_get-map, slice_get-get_or, slice_get_within, get_or_from_slice_get}
 use Rattle.circuit_model.specs.declared.model.Cell.{Cell}
 use Rattle.circuit_model.specs.declared.model.Instance.{Instance}
@@ -10,88 +9,116 @@ use Rattle.circuit_model.specs.declared.model.Kind.{Kind}
 use Rattle.circuit_model.specs.declared.model.Kind.TheVariants.{Reg}
 use Rattle.circuit_model.specs.declared.model.Assumption.TheVariants.{Part}
 use Rattle.circuit_model.specs.declared.present.Component.{Component}
-use Rattle.circuit_model.specs.Kinds.{cell_at, primitive_of, instance_at, reset_instance, three_times, instances}
+use Rattle.circuit_model.specs.Kinds.{cell_at, primitive_of, RepeatsLast, instance_at, each_cycle, reset_instance, carry_instance, register, instances}
 use Rattle.circuit_model.specs.Lawful as lawful
 use Rattle.environment_sets.specs.Sets.{Set}
 use Rattle.circuit_model.specs.Diagnoses.{Place, AtPart}
-use Rattle.circuit_model.specs.Present.{Setup, width_of, IsLawfulComponent}
-use Rattle.present_closure.specs.Closing.{IsClosable, IsInstanceAt}
+use Rattle.circuit_model.specs.Present.{Setup, width_of, IsLawful, IsLawfulComponent}
+use Rattle.present_closure.specs.Closing.{IsInstanceAt}
 
--- the one instance of a component of the kind
-abbrev first_of : Kind → List ℕ → List ℕ → Instance
-first_of (Reg reset) nets widths = reset_instance reset nets widths
-first_of kind nets widths = instance_at (primitive_of kind) nets widths 0
+-- one of so many instances is the one of some cycle
+each_cycle_at : (at : ℕ → Instance) (first n : ℕ) (i : Instance) → Contains (each_cycle at first n) i → (k : ℕ) × (first ≤ k) × (k < first + n) × (i ≡ at k)
+each_cycle_at at first zero i (k, inside, is) = absurd (omega arith)
+each_cycle_at at first (suc n) i (zero, inside, is) = (first, omega arith, omega arith, sym is)
+each_cycle_at at first (suc n) i (suc k, inside, is) =
+    let r : (k : ℕ) × (suc first ≤ k) × (k < suc first + n) × (i ≡ at k) = each_cycle_at at (suc first) n i (k, omega arith, is) in
+    let low = r.1 in
+    let high = r.2 in
+    (r.0, omega arith, omega arith, r.3)
 
-instances-one : (kind : Kind) (nets widths : List ℕ) → instances kind nets widths 1 ≡ first_of kind nets widths ∷ []
-instances-one (Reg reset) nets widths = refl
-instances-one _ nets widths = refl
+-- an instance of a register gives its reset value, or carries its word to a later cycle
+register_at : (reset : ℕ) (nets widths : List ℕ) (n : ℕ) (i : Instance) → Contains (register reset nets widths n) i → (i ≡ reset_instance reset nets widths) ⊎ ((k : ℕ) × (1 ≤ k) × (k < n) × (i ≡ carry_instance nets widths k))
+register_at reset nets widths zero i (k, inside, is) = absurd (omega arith)
+register_at reset nets widths (suc n) i (zero, inside, is) = inl (sym is)
+register_at reset nets widths (suc n) i (suc k, inside, is) =
+    let r : (k : ℕ) × (1 ≤ k) × (k < 1 + n) × (i ≡ carry_instance nets widths k) = each_cycle_at (carry_instance nets widths) 1 n i (k, omega arith, is) in
+    let high = r.2 in
+    inr (r.0, r.1, omega arith, r.3)
 
-only_element : {X : Type 0} (x y : X) → Contains (x ∷ []) y → y ≡ x
-only_element x y (zero, inside, is) = sym is
-only_element x y (suc k, inside, is) = absurd (omega arith)
-
--- cells of nets of the present, with the widths of these nets
+-- cells of the present, with the widths of their nets
 record AreCells (s : Setup) (cells : List Cell) (widths : List ℕ) : Type 0 where
   three : length cells ≡ 3
   widths_three : length widths ≡ 3
-  at_nets : (port : ℕ) (c : Cell) → slice_get cells port ≡ Some c → (c.cycle ≡ 0) × (c.net < length s.nets)
+  at_nets : (port : ℕ) (c : Cell) → slice_get cells port ≡ Some c → c.net < length s.nets
+  at_cycles : (port : ℕ) (c : Cell) → slice_get cells port ≡ Some c → c.cycle < s.cycles
   of_width : (port w : ℕ) (c : Cell) → slice_get cells port ≡ Some c → slice_get widths port ≡ Some w → w ≡ width_of s c.net
 
--- an element of a mapped list
-slice_get_mapped : {X Y : Type 0} (f : X → Y) (xs : List X) (k : ℕ) (y : Y) → slice_get (map f xs) k ≡ Some y → (x : X) × (slice_get xs k ≡ Some x) × (f x ≡ y)
-slice_get_mapped f [] k y e = cc
-slice_get_mapped f (x ∷ xs) zero y e = (x, refl, cc)
-slice_get_mapped f (x ∷ xs) (suc k) y e = slice_get_mapped f xs k y e
+module _ {X Y : Type 0} (a b z : X) (u v w : Y) (Q : X → Y → Type 0) (first : Q a u) (second : Q b v) (third : Q z w) where
+  -- what holds at each of three places
+  each_of_three : (port : ℕ) (x : X) (y : Y) → slice_get (a ∷ b ∷ z ∷ []) port ≡ Some x → slice_get (u ∷ v ∷ w ∷ []) port ≡ Some y → Q x y
+  each_of_three zero x y e k = let at : a ≡ x = cc in let of : u ≡ y = cc in subst (λ (y : Y). Q x y) of (subst (λ (x : X). Q x u) at first)
+  each_of_three (suc zero) x y e k = let at : b ≡ x = cc in let of : v ≡ y = cc in subst (λ (y : Y). Q x y) of (subst (λ (x : X). Q x v) at second)
+  each_of_three (suc (suc zero)) x y e k = let at : z ≡ x = cc in let of : w ≡ y = cc in subst (λ (y : Y). Q x y) of (subst (λ (x : X). Q x w) at third)
+  each_of_three (suc (suc (suc port))) x y e k = cc
 
-three_times_at : {X : Type 0} (x : X) (k : ℕ) (y : X) → slice_get (three_times x) k ≡ Some y → x ≡ y
-three_times_at x zero y e = cc
-three_times_at x (suc zero) y e = cc
-three_times_at x (suc (suc zero)) y e = cc
-three_times_at x (suc (suc (suc k))) y e = cc
+module _ (s : Setup) where
+  -- a cell of the present, with the width of its net
+  record IsCellOf (c : Cell) (w : ℕ) : Type 0 where
+    net : c.net < length s.nets
+    cycle : c.cycle < s.cycles
+    width : w ≡ width_of s c.net
 
-module _ (s : Setup) (nets : List ℕ) (three : length nets ≡ 3) (within : All (λ n. n < length s.nets) nets) where
-  within_at : (port n : ℕ) → slice_get nets port ≡ Some n → n < length s.nets
-  within_at port n e =
-      let P : ℕ → Type 0 = λ n. n < length s.nets in
-      subst P (get_or_from_slice_get nets port n 0 e) (within port 0 (slice_get_within nets port n e))
+  three_cells : (a b z : Cell) (u v w : ℕ) → IsCellOf a u → IsCellOf b v → IsCellOf z w → AreCells s (a ∷ b ∷ z ∷ []) (u ∷ v ∷ w ∷ [])
+  three_cells a b z u v w first second third = record { three = refl; widths_three = refl; at_nets = at_nets; at_cycles = at_cycles; of_width = of_width } where
+    at_nets : (port : ℕ) (c : Cell) → slice_get (a ∷ b ∷ z ∷ []) port ≡ Some c → c.net < length s.nets
+    at_nets port c e = each_of_three a b z a b z (λ c d. c.net < length s.nets) first.net second.net third.net port c c e e
 
-  each_net : AreCells s (map (cell_at 0) nets) (map (width_of s) nets)
-  each_net = record { three = length-map nets (cell_at 0) ∙ three; widths_three = length-map nets (width_of s) ∙ three; at_nets = at_nets; of_width = of_width } where
-    at_nets : (port : ℕ) (c : Cell) → slice_get (map (cell_at 0) nets) port ≡ Some c → (c.cycle ≡ 0) × (c.net < length s.nets)
-    at_nets port c e =
-        let n : (n : ℕ) × (slice_get nets port ≡ Some n) × (cell_at 0 n ≡ c) = slice_get_mapped (cell_at 0) nets port c e in
-        let P : Cell → Type 0 = λ c. (c.cycle ≡ 0) × (c.net < length s.nets) in
-        subst P n.2 (refl, within_at port n.0 n.1)
+    at_cycles : (port : ℕ) (c : Cell) → slice_get (a ∷ b ∷ z ∷ []) port ≡ Some c → c.cycle < s.cycles
+    at_cycles port c e = each_of_three a b z a b z (λ c d. c.cycle < s.cycles) first.cycle second.cycle third.cycle port c c e e
 
-    of_width : (port w : ℕ) (c : Cell) → slice_get (map (cell_at 0) nets) port ≡ Some c → slice_get (map (width_of s) nets) port ≡ Some w → w ≡ width_of s c.net
-    of_width port w c e k =
-        let n : (n : ℕ) × (slice_get nets port ≡ Some n) × (cell_at 0 n ≡ c) = slice_get_mapped (cell_at 0) nets port c e in
-        let m : (n : ℕ) × (slice_get nets port ≡ Some n) × (width_of s n ≡ w) = slice_get_mapped (width_of s) nets port w k in
-        let a = n.1 in
-        let b = m.1 in
-        let same : m.0 ≡ n.0 = cc in
-        sym m.2 ∙ (ap (width_of s) same ∙ ap (λ (c : Cell). width_of s c.net) n.2)
+    of_width : (port n : ℕ) (c : Cell) → slice_get (a ∷ b ∷ z ∷ []) port ≡ Some c → slice_get (u ∷ v ∷ w ∷ []) port ≡ Some n → n ≡ width_of s c.net
+    of_width port n c e k = each_of_three a b z u v w (λ c n. n ≡ width_of s c.net) first.width second.width third.width port c n e k
 
-  one_net : AreCells s (three_times (cell_at 0 (slice_index nets 1))) (three_times (slice_index (map (width_of s) nets) 1))
-  one_net = record { three = refl; widths_three = refl; at_nets = at_nets; of_width = of_width } where
-    at_nets : (port : ℕ) (c : Cell) → slice_get (three_times (cell_at 0 (slice_index nets 1))) port ≡ Some c → (c.cycle ≡ 0) × (c.net < length s.nets)
-    at_nets port c e =
-        let P : Cell → Type 0 = λ c. (c.cycle ≡ 0) × (c.net < length s.nets) in
-        subst P (three_times_at _ port c e) (refl, within 1 0 (omega (arith, three)))
+  of_net : (cycle net : ℕ) → net < length s.nets → cycle < s.cycles → IsCellOf (cell_at cycle net) (width_of s net)
+  of_net cycle net inside low = record { net = inside; cycle = low; width = refl }
 
-    of_width : (port w : ℕ) (c : Cell) → slice_get (three_times (cell_at 0 (slice_index nets 1))) port ≡ Some c → slice_get (three_times (slice_index (map (width_of s) nets) 1)) port ≡ Some w → w ≡ width_of s c.net
-    of_width port w c e k =
-        let inside : 1 < length nets = omega (arith, three) in
-        sym (three_times_at _ port w k) ∙ (get_or-map (width_of s) nets 1 0 0 inside ∙ ap (λ (c : Cell). width_of s c.net) (three_times_at _ port c e))
+  module _ (a b z : ℕ) (in_a : a < length s.nets) (in_b : b < length s.nets) (in_z : z < length s.nets) where
+    abbrev nets : List ℕ
+    nets = a ∷ b ∷ z ∷ []
 
--- the cells and the widths of an instance of a component
-first_cells : (s : Setup) (kind : Kind) (nets : List ℕ) → length nets ≡ 3 → All (λ n. n < length s.nets) nets → AreCells s (first_of kind nets (map (width_of s) nets)).cells (first_of kind nets (map (width_of s) nets)).widths
-first_cells s (Reg reset) nets three within = one_net s nets three within
-first_cells s _ nets three within = each_net s nets three within
+    abbrev widths : List ℕ
+    widths = map (width_of s) nets
+
+    cycle_cells : (kind : Kind) (i : Instance) → Contains (each_cycle (instance_at (primitive_of kind) nets widths) 0 s.cycles) i → AreCells s i.cells i.widths
+    cycle_cells kind i of_part =
+        let r : (k : ℕ) × (0 ≤ k) × (k < 0 + s.cycles) × (i ≡ instance_at (primitive_of kind) nets widths k) = each_cycle_at (instance_at (primitive_of kind) nets widths) 0 s.cycles i of_part in
+        let high = r.2 in
+        let low : r.0 < s.cycles = omega arith in
+        let P : Instance → Type 0 = λ i. AreCells s i.cells i.widths in
+        subst P (sym r.3) (three_cells (cell_at r.0 a) (cell_at r.0 b) (cell_at r.0 z) (width_of s a) (width_of s b) (width_of s z) (of_net r.0 a in_a low) (of_net r.0 b in_b low) (of_net r.0 z in_z low))
+
+    register_cells : (reset : ℕ) → 1 ≤ s.cycles → b ≡ z → (i : Instance) → Contains (register reset nets widths s.cycles) i → AreCells s i.cells i.widths
+    register_cells reset some same i of_part = elim (register_at reset nets widths s.cycles i of_part) [
+      | inl is ↦
+          let q : IsCellOf (cell_at 0 b) (width_of s b) = of_net 0 b in_b (omega arith) in
+          subst P (sym is) (three_cells (cell_at 0 b) (cell_at 0 b) (cell_at 0 b) (width_of s b) (width_of s b) (width_of s b) q q q)
+      | inr r ↦
+          let positive = r.1 in
+          let high = r.2 in
+          let q : IsCellOf (cell_at r.0 b) (width_of s b) = of_net r.0 b in_b high in
+          let d : IsCellOf (cell_at (r.0 - 1) a) (width_of s a) = of_net (r.0 - 1) a in_a (omega arith) in
+          let third : IsCellOf (cell_at r.0 b) (width_of s z) = subst (λ (n : ℕ). IsCellOf (cell_at r.0 b) (width_of s n)) same q in
+          subst P (sym r.3) (three_cells (cell_at (r.0 - 1) a) (cell_at r.0 b) (cell_at r.0 b) (width_of s a) (width_of s b) (width_of s z) d q third)
+    ] where
+      P : Instance → Type 0
+      P i = AreCells s i.cells i.widths
+
+    kind_cells : (kind : Kind) → 1 ≤ s.cycles → RepeatsLast kind nets → (i : Instance) → Contains (instances kind nets widths s.cycles) i → AreCells s i.cells i.widths
+    kind_cells (Reg reset) some repeats i of_part = let same : b ≡ z = cc in register_cells reset some same i of_part
+    kind_cells kind some repeats i of_part = cycle_cells kind i of_part
+
+  -- the cells and the widths of an instance of a component
+  instance_cells : (kind : Kind) (nets : List ℕ) → length nets ≡ 3 → All (λ n. n < length s.nets) nets → 1 ≤ s.cycles → RepeatsLast kind nets → (i : Instance) → Contains (instances kind nets (map (width_of s) nets) s.cycles) i → AreCells s i.cells i.widths
+  instance_cells kind (a ∷ b ∷ z ∷ []) three within some repeats i of_part =
+      kind_cells a b z (within 0 0 (omega arith)) (within 1 0 (omega arith)) (within 2 0 (omega arith)) kind some repeats i of_part
+  instance_cells kind [] three within some repeats i of_part = absurd (omega arith)
+  instance_cells kind (a ∷ []) three within some repeats i of_part = absurd (omega arith)
+  instance_cells kind (a ∷ b ∷ []) three within some repeats i of_part = absurd (omega arith)
+  instance_cells kind (a ∷ b ∷ z ∷ y ∷ rest) three within some repeats i of_part = absurd (omega arith)
 
 -- an instance of a component of the present
-pub instance_at_place : (s : Setup) (E : Set Place) → IsClosable s → (place : ℕ) → IsTrue (E (AtPart place)) → (c : Component) → slice_get s.parts place ≡ Some c → (instance : Instance) → Contains c.part instance → lawful.IsLawful instance → IsInstanceAt s E place instance
-instance_at_place s E closable place chosen c e instance of_part good = record {
+pub instance_at_place : (s : Setup) (E : Set Place) → IsLawful s → (place : ℕ) → IsTrue (E (AtPart place)) → (c : Component) → slice_get s.parts place ≡ Some c → (instance : Instance) → Contains c.part instance → lawful.IsLawful instance → IsInstanceAt s E place instance
+instance_at_place s E lawful place chosen c e instance of_part good = record {
   part = c.part;
   chosen = chosen;
   assumed = ap (option_map Part) (slice_get-map (λ (c : Component). c.part) s.parts place ∙ ap (option_map (λ (c : Component). c.part)) e);
@@ -100,28 +127,19 @@ instance_at_place s E closable place chosen c e instance of_part good = record {
   three = cells.three;
   widths = cells.widths_three;
   at_nets = cells.at_nets;
+  at_cycles = cells.at_cycles;
   of_width = cells.of_width;
 } where
-  widths : List ℕ
-  widths = map (width_of s) c.nets
-
   at_place : (P : Component → Type 0) → All P s.parts → P c
   at_place P all = subst P (get_or_from_slice_get s.parts place c c e) (all place c (slice_get_within s.parts place c e))
 
   component : IsLawfulComponent s c
-  component = at_place (IsLawfulComponent s) closable.lawful.each_part
-
-  is : instance ≡ first_of c.kind c.nets widths
-  is =
-      let part : c.part ≡ first_of c.kind c.nets widths ∷ [] =
-      component.part ∙ (ap (λ (n : ℕ). instances c.kind c.nets widths n) closable.one_cycle ∙ instances-one c.kind c.nets widths) in
-      let P : List Instance → Type 0 = λ part. Contains part instance in
-      only_element (first_of c.kind c.nets widths) instance (subst P part of_part)
+  component = at_place (IsLawfulComponent s) lawful.each_part
 
   cells : AreCells s instance.cells instance.widths
   cells =
-      let P : Instance → Type 0 = λ i. AreCells s i.cells i.widths in
-      subst P (sym is) (first_cells s c.kind c.nets component.three component.nets)
+      let P : List Instance → Type 0 = λ part. Contains part instance in
+      instance_cells s c.kind c.nets component.three component.nets lawful.some_cycle component.unused instance (subst P component.part of_part)
 
 -- what holds of the component there
 pub at_slice_get : (components : List Component) (place : ℕ) (d c : Component) (P : Component → Type 0) → slice_get components place ≡ Some d → slice_get components place ≡ Some c → P d → P c

@@ -1,5 +1,5 @@
 -- Where nothing is left to put in, the table is the closure of the environment.
-use Rattle.std.proofs.Common.{◌≡◌, IsTrue, ℕ, zero, suc, List, [], ◌∷◌, map, Option, Some, None, slice_get, refl, sym, ap, subst, ◌∙◌, arith}
+use Rattle.std.proofs.Common.{◌≡◌, IsTrue, ℕ, zero, suc, List, [], ◌∷◌, map, Option, Some, None, slice_get, refl, sym, ap, subst, ◌∙◌}
 use Rattle.std.specs.List.{Contains}
 use Rattle.std.specs.Option.{option_map}
 use Rattle.environment_sets.specs.Sets.{Set}
@@ -12,12 +12,11 @@ use Rattle.circuit_model.specs.declared.present.Component.{Component}
 use Rattle.circuit_model.specs.Closure.{fact, AreHeld, AreTwoWords}
 use Rattle.circuit_model.specs.Stock.{IsChosen, Has, IsRefutedBy}
 use Rattle.circuit_model.specs.Diagnoses.{Place, AtPart, AtCell}
-use Rattle.circuit_model.specs.Present.{Setup, reading_in, IsFactOf}
+use Rattle.circuit_model.specs.Present.{Setup, reading_in}
 use Rattle.circuit_model.specs.Whole.{stock}
 use Rattle.circuit_model.proofs.Rounds as rounds
 use Rattle.circuit_model.proofs.Rounds.{Follows-within, Clashes-within}
-use Rattle.present_closure.specs.Closing.{Table, word_at, IsIn, HasReadings, IsClosable, IsSettled, IsSettledAt}
-use Rattle.present_closure.proofs.Measured.{measured_fact}
+use Rattle.present_closure.specs.Closing.{Table, word_at, IsIn, HasReadings, IsSettled, IsSettledAt}
 
 not_part : (o : Option ℕ) (c : Cell) (part : List Instance) → option_map (λ v. Reading (fact c v)) o ≡ Some (Part part) → ⊥
 not_part None c part e = cc
@@ -37,7 +36,7 @@ part_at [] place part e = cc
 part_at (c ∷ components) zero part e = (c, refl, cc)
 part_at (c ∷ components) (suc place) part e = part_at components place part e
 
-module _ (s : Setup) (E : Set Place) (table : Table) (closable : IsClosable s) (readings : HasReadings s E table) (settled : IsSettled s E table) where
+module _ (s : Setup) (E : Set Place) (table : Table) (readings : HasReadings s E table) (settled : IsSettled s E table) where
   abbrev A : Assumption → Type 0
   A = IsChosen (stock s) E
 
@@ -57,15 +56,7 @@ module _ (s : Setup) (E : Set Place) (table : Table) (closable : IsClosable s) (
     is_in : (c : Cell) → stock s (AtCell c) ≡ Some (Reading f) → IsTrue (E (AtCell c)) → IsIn table f
     is_in c e chosen =
         let r : (reading_in s.readings c ≡ Some f.value) × (c ≡ f.cell) = is_reading (reading_in s.readings c) c f e in
-        let is : IsFactOf s (fact c f.value) = measured_fact s closable.lawful c f.value r.0 in
-        let one = is.cycle in
-        let zeroth : c.cycle ≡ 0 = omega (arith, closable.one_cycle) in
-        let cell_in : ℕ → Cell = λ t. record { net = c.net; cycle = t } in
-        let word : word_at table c.net ≡ Some f.value = readings c.net f.value (subst (λ (t : ℕ). IsTrue (E (AtCell (cell_in t)))) zeroth chosen) (ap (λ (t : ℕ). reading_in s.readings (cell_in t)) (sym zeroth) ∙ r.0) in
-        record {
-          cycle = ap (λ (c : Cell). c.cycle) (sym r.1) ∙ zeroth;
-          word = ap (λ (c : Cell). word_at table c.net) (sym r.1) ∙ word;
-        }
+        ap (λ (c : Cell). word_at table c) (sym r.1) ∙ readings c f.value chosen r.0
 
   settled_at : (part : List Instance) → A (Part part) → (instance : Instance) → Contains part instance → (known : List (Option ℕ)) → AreHeld (IsIn table) instance.cells known → IsSettledAt table instance known
   settled_at part a instance of_part known held =
@@ -81,11 +72,11 @@ module _ (s : Setup) (E : Set Place) (table : Table) (closable : IsClosable s) (
 
   one_word : AreTwoWords (IsIn table) → ⊥
   one_word t =
-      let a : word_at table t.cell.net ≡ Some t.low = t.low_holds.word in
-      let b : word_at table t.cell.net ≡ Some t.high = t.high_holds.word in
+      let a : word_at table t.cell ≡ Some t.low = t.low_holds in
+      let b : word_at table t.cell ≡ Some t.high = t.high_holds in
       t.differ cc
 
-  -- what follows from E is held
+  -- what follows from E is in the table
   pub quiet_complete : (f : Fact) → Has (stock s) f E → IsIn table f
   quiet_complete f h = Follows-within A (IsIn table) closed f h
 

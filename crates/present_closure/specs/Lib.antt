@@ -1,5 +1,4 @@
 pub mod Closing
-pub mod Everything
 pub mod Facts
-pub mod Finding
+pub mod Members
 pub mod Sets

@@ -11,9 +11,3 @@ module _ {N : Type 0} where
     pub more : E ⊆ F
     pub has : IsTrue (F name)
     pub only : (k : N) → IsTrue (F k) → IsTrue (E k) ⊎ (k ≡ name)
-
-  -- G has what E or F has
-  pub record IsUnion (E F G : Set N) : Type 0 where
-    pub left : E ⊆ G
-    pub right : F ⊆ G
-    pub only : (k : N) → IsTrue (G k) → IsTrue (E k) ⊎ IsTrue (F k)

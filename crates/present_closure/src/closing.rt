@@ -1,15 +1,15 @@
-// Closing an environment of a present of one cycle.
+// Closing an environment of a present.
 
 ghost use Rattle.std.specs.Prelude.{◌<◌, length, MatchBool};
-ghost use Rattle.circuit_model.specs.Present.{MOST_PARTS};
+ghost use Rattle.circuit_model.specs.Present.{IsLawful};
 ghost use Rattle.circuit_model.specs.Stock.{IsRefutedBy};
 ghost use Rattle.circuit_model.specs.Whole.{stock};
-ghost use Rattle.present_closure.specs.Closing.{IsClosable, IsSound, HasReadings, IsClosed, IsReady, IsSettledFor, IsSettledIn, IsSettled, Learns, Tells};
-ghost use Rattle.present_closure.specs.Finding.{members};
+ghost use Rattle.present_closure.specs.Closing.{IsSound, HasReadings, IsClosed, IsReady, IsSettledFor, IsSettledIn, IsSettled, Learns, Tells};
+ghost use Rattle.present_closure.specs.Members.{members};
 
 use crate::environment::Environment;
 use crate::inferring::take_choice;
-use crate::table::{Held, Step};
+use crate::table::{Row, Step};
 use circuit_model::{Instance, Present};
 
 /// Which of an instance's ports give their words.
@@ -25,8 +25,8 @@ const CHOICES: [[bool; 3]; 8] = [
 ];
 
 /// Puts in all that follows from the environment, and says whether it contradicts itself.
-pub fn close(present: &Present, chosen: &Environment, table: &mut [Option<Held>]) -> bool
-    requires closable { IsClosable present.now }
+pub fn close(present: &Present, chosen: &Environment, table: &mut [Row]) -> bool
+    requires lawful { IsLawful present.now }
     requires sound { IsSound present.now (members chosen.now) table.old }
     requires readings { HasReadings present.now (members chosen.now) table.old }
     ensures { MatchBool result (IsRefutedBy (stock present.now) (members chosen.now)) (IsClosed present.now (members chosen.now) table.new) }
@@ -41,8 +41,8 @@ pub fn close(present: &Present, chosen: &Environment, table: &mut [Option<Held>]
 }
 
 /// Goes over the components, up to the first from which something is learnt.
-fn pass(present: &Present, chosen: &Environment, table: &mut [Option<Held>]) -> Step
-    requires closable { IsClosable present.now }
+fn pass(present: &Present, chosen: &Environment, table: &mut [Row]) -> Step
+    requires lawful { IsLawful present.now }
     requires sound { IsSound present.now (members chosen.now) table.old }
     ensures { Tells present.now (members chosen.now) (IsSettled present.now (members chosen.now) table.old) table.old table.new result }
 {
@@ -57,13 +57,8 @@ fn pass(present: &Present, chosen: &Environment, table: &mut [Option<Held>]) -> 
 
 /// Goes over the instances of a component, if it is one of the environment, up to the first from which something is
 /// learnt.
-fn take_part(
-    present: &Present,
-    chosen: &Environment,
-    place: u16,
-    table: &mut [Option<Held>],
-) -> Step
-    requires closable { IsClosable present.now }
+fn take_part(present: &Present, chosen: &Environment, place: u16, table: &mut [Row]) -> Step
+    requires lawful { IsLawful present.now }
     requires place { place < length present.now.parts }
     requires sound { IsSound present.now (members chosen.now) table.old }
     ensures { Tells present.now (members chosen.now) (IsSettledIn present.now (members chosen.now) table.old place) table.old table.new result }
@@ -73,7 +68,7 @@ fn take_part(
     }
     let part = &present.part_at(place).part;
     for index in 0..part.len() {
-        let step = take_instance(place, part.at(index), table);
+        let step = take_instance(part.at(index), table);
         let Step::Quiet = step else {
             return step;
         };
@@ -81,14 +76,13 @@ fn take_part(
     Step::Quiet
 }
 
-/// Puts in what words at some ports of the instance force, up to the first word that is not held.
-fn take_instance(place: u16, instance: &Instance, table: &mut [Option<Held>]) -> Step
-    requires place { place < MOST_PARTS }
-    requires ready { IsReady table.old instance.now }
-    ensures { Learns place instance.now (IsSettledFor table.old instance.now) table.old table.new result }
+/// Puts in what words at some ports of the instance force, up to the first word that was not there.
+fn take_instance(instance: &Instance, table: &mut [Row]) -> Step
+    requires { IsReady table.old instance.now }
+    ensures { Learns instance.now (IsSettledFor table.old instance.now) table.old table.new result }
 {
     for choice in &CHOICES {
-        let step = take_choice(place, instance, choice, table);
+        let step = take_choice(instance, choice, table);
         let Step::Quiet = step else {
             return step;
         };

@@ -1,31 +1,23 @@
 // Sets of components and measured cells.
 
-ghost use Rattle.std.specs.Prelude.{◌≡◌, ℕ, ◌||◌, false, length, is_some, slice_index_or};
-ghost use Rattle.circuit_model.specs.Kinds.{cell_at};
-ghost use Rattle.circuit_model.specs.Present.{MOST_NETS, reading_in};
-
-use crate::flags::{add_all, is_set, is_within, set_first};
+use crate::flags::{are_within, is_set, is_set_in, is_within, set_in};
 use circuit_model::{Cell, Present};
 
-/// Some of the components and the measured cells of a present with one cycle: components by their places, cells by
-/// their nets.
+/// Some of the components and the measured cells of a present: components by their places, cells by their nets and
+/// cycles.
 #[derive(Clone, Copy, Debug)]
 pub struct Environment {
     parts: [bool; 64],
-    nets: [bool; 256],
+    cells: [[bool; 16]; 256],
 }
 
 impl Environment {
     ghost use Rattle.std.specs.Prelude.{◌≡◌, ◌<◌, ◌↔◌, IsTrue};
     ghost use Rattle.environment_sets.specs.Sets.{◌⊆◌};
     ghost use Rattle.circuit_model.specs.Diagnoses.{AtPart, AtCell};
-    ghost use Rattle.circuit_model.specs.Closure.{fact};
-    ghost use Rattle.circuit_model.specs.Kinds.{cell_at};
-    ghost use Rattle.circuit_model.specs.Present.{MOST_PARTS, MOST_NETS};
-    ghost use Rattle.circuit_model.specs.Whole.{everything};
-    ghost use Rattle.present_closure.specs.Everything.{IsPartsOf, IsWithParts, IsWithReadings};
-    ghost use Rattle.present_closure.specs.Finding.{members};
-    ghost use Rattle.present_closure.specs.Sets.{IsEmpty, IsWith, IsUnion};
+    ghost use Rattle.circuit_model.specs.Present.{MOST_CYCLES, MOST_NETS, MOST_PARTS};
+    ghost use Rattle.present_closure.specs.Members.{members, IsPartsOf, IsWithReadings};
+    ghost use Rattle.present_closure.specs.Sets.{IsEmpty, IsWith};
 
     /// Nothing.
     pub fn empty() -> Environment
@@ -33,36 +25,19 @@ impl Environment {
     {
         Environment {
             parts: [false; 64],
-            nets: [false; 256],
+            cells: [[false; 16]; 256],
         }
     }
 
-    /// All components and all measured cells of a present of one cycle.
-    pub fn everything_of(present: &Present) -> Environment
-        requires { present.now.cycles ≡ 1 }
-        ensures { members result ≡ everything present.now }
-    {
-        Environment::empty()
-            .with_parts_of(present)
-            .with_readings_of(present)
-    }
-
-    /// The same with all components of the present.
-    pub fn with_parts_of(mut self, present: &Present) -> Environment
-        ensures { IsWithParts present.now (members self) (members result) }
-    {
-        set_first(&mut self.parts, present.parts());
-        self
-    }
-
-    /// The same with all measured cells of a present of one cycle.
-    pub fn with_readings_of(mut self, present: &Present) -> Environment
-        requires { present.now.cycles ≡ 1 }
+    /// The same with all measured cells of the present.
+    pub fn with_readings_of(self, present: &Present) -> Environment
         ensures { IsWithReadings present.now (members self) (members result) }
     {
-        let _cycles = present.cycles();
-        set_measured(present, &mut self.nets);
-        self
+        let mut more = self;
+        for place in 0..present.readings() {
+            more = more.with_cell(present.reading(place).cell);
+        }
+        more
     }
 
     /// Its components alone.
@@ -71,7 +46,7 @@ impl Environment {
     {
         Environment {
             parts: self.parts,
-            nets: [false; 256],
+            cells: [[false; 16]; 256],
         }
     }
 
@@ -84,21 +59,13 @@ impl Environment {
         self
     }
 
-    /// The same with the measured cell of a net.
-    pub fn with_net(mut self, net: u16) -> Environment
-        requires { net < MOST_NETS }
-        ensures { IsWith (members self) (AtCell (cell_at 0 net)) (members result) }
+    /// The same with a measured cell.
+    pub fn with_cell(mut self, cell: Cell) -> Environment
+        requires net { cell.net < MOST_NETS }
+        requires cycle { cell.cycle < MOST_CYCLES }
+        ensures { IsWith (members self) (AtCell cell) (members result) }
     {
-        self.nets[net as usize] = true;
-        self
-    }
-
-    /// What is in one of the two.
-    pub(crate) fn union(mut self, other: Environment) -> Environment
-        ensures { IsUnion (members self) (members other) (members result) }
-    {
-        add_all(&mut self.parts, &other.parts);
-        add_all(&mut self.nets, &other.nets);
+        set_in(&mut self.cells, cell);
         self
     }
 
@@ -106,7 +73,7 @@ impl Environment {
     pub fn is_subset(&self, other: &Environment) -> bool
         ensures { IsTrue result ↔ (members self.now ⊆ members other.now) }
     {
-        is_within(&self.parts, &other.parts) && is_within(&self.nets, &other.nets)
+        is_within(&self.parts, &other.parts) && are_within(&self.cells, &other.cells)
     }
 
     /// Whether it has the component at the place.
@@ -120,18 +87,6 @@ impl Environment {
     pub fn has_cell(&self, cell: Cell) -> bool
         ensures { result ≡ members self.now (AtCell cell) }
     {
-        cell.cycle == 0 && is_set(&self.nets, cell.net)
-    }
-}
-
-/// Sets the places of measured nets.
-fn set_measured(present: &Present, nets: &mut [bool])
-    requires { length nets.old ≡ MOST_NETS }
-    ensures { (k : ℕ) → slice_index_or nets.new k false ≡ (slice_index_or nets.old k false || is_some (reading_in present.now.readings (cell_at 0 k))) }
-{
-    for net in 0..present.nets() {
-        if present.reading_at(Cell { net, cycle: 0 }).is_some() {
-            nets[net as usize] = true;
-        }
+        is_set_in(&self.cells, cell)
     }
 }

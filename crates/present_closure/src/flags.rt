@@ -1,6 +1,11 @@
-// Rows of truth values.
+// Truth values in rows, and rows of them.
 
-ghost use Rattle.std.specs.Prelude.{◌≡◌, ◌↔◌, IsTrue, ℕ, ◌≤◌, ◌||◌, nat_lt, length, false, slice_index_or};
+ghost use Rattle.std.specs.Prelude.{◌≡◌, ◌≢◌, ◌↔◌, IsTrue, ℕ, ◌<◌, length, true, false, slice_index_or};
+ghost use Rattle.circuit_model.specs.declared.model.Cell.{Cell};
+ghost use Rattle.circuit_model.specs.Present.{MOST_CYCLES};
+ghost use Rattle.present_closure.specs.Members.{flag_at};
+
+use circuit_model::Cell;
 
 /// The value at a place, false past the end.
 pub fn is_set(flags: &[bool], place: u16) -> bool
@@ -31,24 +36,35 @@ fn is_set_at(flags: &[bool], place: usize) -> bool
     }
 }
 
-/// Sets what is set in the other row.
-pub fn add_all(flags: &mut [bool], others: &[bool])
-    requires { length others.now ≡ length flags.old }
-    ensures { (k : ℕ) → slice_index_or flags.new k false ≡ (slice_index_or flags.old k false || slice_index_or others.now k false) }
+/// The value at a cell, where each net has a row, false past the ends.
+pub fn is_set_in(rows: &[[bool; 16]], cell: Cell) -> bool
+    ensures { result ≡ flag_at rows.now cell }
 {
-    for place in 0..flags.len() {
-        if others[place] {
-            flags[place] = true;
-        }
+    match rows.get(cell.net as usize) {
+        Some(row) => is_set_at(row, cell.cycle as usize),
+        None => false,
     }
 }
 
-/// Sets the first places.
-pub fn set_first(flags: &mut [bool], count: u16)
-    requires { count ≤ length flags.old }
-    ensures { (k : ℕ) → slice_index_or flags.new k false ≡ (slice_index_or flags.old k false || nat_lt k count) }
+/// Sets the value at a cell.
+pub fn set_in(rows: &mut [[bool; 16]], cell: Cell)
+    requires net { cell.net < length rows.old }
+    requires cycle { cell.cycle < MOST_CYCLES }
+    ensures here { flag_at rows.new cell ≡ true }
+    ensures elsewhere { (c : Cell) → c ≢ cell → flag_at rows.new c ≡ flag_at rows.old c }
 {
-    for place in 0..count {
-        flags[place as usize] = true;
+    rows[cell.net as usize][cell.cycle as usize] = true;
+}
+
+/// Whether what is set is set in the other rows.
+pub fn are_within(rows: &[[bool; 16]], others: &[[bool; 16]]) -> bool
+    requires { length rows.now ≡ length others.now }
+    ensures { IsTrue result ↔ ((c : Cell) → IsTrue (flag_at rows.now c) → IsTrue (flag_at others.now c)) }
+{
+    for (net, row) in rows.iter().enumerate() {
+        if !is_within(row, &others[net]) {
+            return false;
+        }
     }
+    true
 }

@@ -1,17 +1,17 @@
-// What follows from an environment of a present, or from the present as a whole, and from which of its assumptions.
+// What follows from an environment of a present.
 #![tactic(auto)]
 
 mod closing;
 mod closure;
 mod environment;
-mod finding;
+mod facts;
 mod flags;
 mod inferring;
 mod table;
 
 pub use closure::Closure;
 pub use environment::Environment;
-pub use finding::{Closed, Finding, close_environment, find_value};
+pub use facts::{Closed, close_environment};
 
 #[cfg(test)]
 mod tests;

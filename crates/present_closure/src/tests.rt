@@ -1,6 +1,6 @@
 // Adders with some of their words measured.
 
-use crate::{Environment, Finding, find_value};
+use crate::{Closed, Environment, close_environment};
 use circuit_model::{Cell, Component, Fact, Kind, Name, Present, instances_of, limits};
 use std::alloc::Global;
 use std::process::Abort;
@@ -18,15 +18,9 @@ fn sum_from_its_terms(rt: HostRuntime) -> Result<(), Fail> {
     let mut present = sum(&rt, rt.alloc())?;
     measure(&rt, &mut present, A, 5);
     measure(&rt, &mut present, B, 7);
-    let (value, from) = word(find(&rt, rt.alloc(), &present, Z)?).ok_or("a word")?;
-    assert_eq!(rt; value, 12);
-    assert!(rt; from.has_part(0));
-    assert!(rt; from.has_cell(at(A)));
-    assert!(rt; from.has_cell(at(B)));
-    assert!(rt; !from.has_cell(at(Z)));
-    assert!(rt; !from.has_part(1));
-    assert!(rt; !from.has_cell(Cell { net: A, cycle: 1 }));
-    assert!(rt; !from.has_cell(at(256)));
+    assert_eq!(rt; word(rt.alloc(), &present, Z)?, Some(12));
+    assert_eq!(rt; word(rt.alloc(), &present, B)?, Some(7));
+    assert_eq!(rt; word(rt.alloc(), &present, 256)?, None);
     Ok(())
 }
 
@@ -35,16 +29,7 @@ fn term_from_the_sum(rt: HostRuntime) -> Result<(), Fail> {
     let mut present = sum(&rt, rt.alloc())?;
     measure(&rt, &mut present, Z, 3);
     measure(&rt, &mut present, B, 7);
-    let (value, from) = word(find(&rt, rt.alloc(), &present, A)?).ok_or("a word")?;
-    assert_eq!(rt; value, 252);
-    assert!(rt; from.has_part(0));
-    assert!(rt; !from.has_cell(at(A)));
-    assert!(rt; from.has_cell(at(B)));
-    assert!(rt; from.has_cell(at(Z)));
-    let (measured, alone) = word(find(&rt, rt.alloc(), &present, B)?).ok_or("a word")?;
-    assert_eq!(rt; measured, 7);
-    assert!(rt; !alone.has_part(0));
-    assert!(rt; alone.has_cell(at(B)));
+    assert_eq!(rt; word(rt.alloc(), &present, A)?, Some(252));
     Ok(())
 }
 
@@ -52,10 +37,22 @@ fn term_from_the_sum(rt: HostRuntime) -> Result<(), Fail> {
 fn nothing_and_clash(rt: HostRuntime) -> Result<(), Fail> {
     let mut present = sum(&rt, rt.alloc())?;
     measure(&rt, &mut present, A, 5);
-    assert!(rt; matches!(find(&rt, rt.alloc(), &present, Z)?, Finding::Nothing));
+    assert_eq!(rt; word(rt.alloc(), &present, Z)?, None);
     measure(&rt, &mut present, B, 7);
+    let alone = Environment::empty().with_readings_of(&present);
+    let Closed::Facts(measured) = close_environment(rt.alloc(), &present, &alone)? else {
+        return Err("a clash of the measurements alone".into());
+    };
+    assert_eq!(rt; measured.value_at(at(B)), Some(7));
+    assert_eq!(rt; measured.value_at(at(Z)), None);
     measure(&rt, &mut present, Z, 13);
-    assert!(rt; matches!(find(&rt, rt.alloc(), &present, A)?, Finding::Clash));
+    let all = everything(&present);
+    assert!(rt;
+        matches!(
+            close_environment(rt.alloc(), &present, &all)?,
+            Closed::Clash
+        )
+    );
     Ok(())
 }
 
@@ -63,17 +60,16 @@ fn at(net: u16) -> Cell {
     Cell { net, cycle: 0 }
 }
 
-fn word(finding: Finding) -> Option<(u64, Environment)> {
-    match finding {
-        Finding::Value { value, from } => Some((value, from)),
-        _ => None,
+// The word that follows at the net from the adder and the measurements.
+fn word(alloc: Global, present: &Present, net: u16) -> Result<Option<u64>, Fail> {
+    match close_environment(alloc, present, &everything(present))? {
+        Closed::Clash => Err("a clash".into()),
+        Closed::Facts(closure) => Ok(closure.value_at(at(net))),
     }
 }
 
-fn find(rt: &impl Abort, alloc: Global, present: &Present, net: u16) -> Result<Finding, Fail> {
-    assert!(rt; present.cycles() == 1);
-    assert!(rt; net < present.nets());
-    Ok(find_value(alloc, present, Cell { net, cycle: 0 })?)
+fn everything(present: &Present) -> Environment {
+    Environment::empty().with_part(0).with_readings_of(present)
 }
 
 // Nets A, B and Z of eight bits, and Z is the sum of A and B.

@@ -17,13 +17,6 @@ module _ (S R : Stock ℕ) (one : ℕ) (more : HasOneMore ℕ S R one) where
   in_whole : (E : Set ℕ) (a : Assumption) → IsChosen S E a → IsChosen R E a
   in_whole E a h = record { name = h.name; chosen = h.chosen; named = more.0 h.name a h.named }
 
-  environment_in_part : (E : Set ℕ) → IsFalse (E one) → IsEnvironment R E → IsEnvironment S E
-  environment_in_part E without env k inside =
-      elim (R k) as (λ x. R k ≡ x → IsSome x → IsSome (S k)) [
-        | Some b ↦ λ r _. rw (more.1 k b (λ e. true≢false (sym inside ∙ (ap E e ∙ without))) r) refl
-        | None ↦ λ r n. absurd (true≢false (sym n))
-      ] refl (env k inside)
-
   environment_in_whole : (E : Set ℕ) → IsEnvironment S E → IsEnvironment R E
   environment_in_whole E env k inside =
       elim (S k) as (λ x. S k ≡ x → IsSome x → IsSome (R k)) [

@@ -36,13 +36,6 @@ module _ (S : Stock ℕ) (kept : Family) (settled : IsSettled S (λ f. kept (Som
   pub choice_reached : (j : Inference) (ms : List (Set ℕ)) (E : Set ℕ) → Leads S j.from j.maker j.to → AreChosen kept E j.from ms → HasMaker j.maker E → IsReached kept j.to E
   choice_reached j ms E leads chosen maker = reached j.to E (leads_on S E j.from j.maker j.to leads maker (chosen_has S kept settled.sound E j.from ms chosen))
 
-  -- all is carried out where what is kept is settled, whatever sound inferences are recorded
-  pub carried_of_settled : (recorded : Inference → Type 0) → ((j : Inference) → recorded j → Leads S j.from j.maker j.to) → AreCarriedOut S kept recorded Nothing NoItem
-  carried_of_settled recorded leads = record {
-    readings = λ k f E named inside. inl (settled.readings k f E named inside);
-    inferences = λ j ms E r chosen maker. inl (inl (choice_reached j ms E (leads j r) chosen maker));
-  }
-
   pub sound_of_settled : IsSound S kept
   sound_of_settled = record {
     environments = λ t. elim t as (λ t. (E : Set ℕ) → kept t E → IsEnvironment S E) [ Some f ↦ settled.environments f | None ↦ settled.nogood_environments ];

@@ -1,7 +1,6 @@
 use Rattle.std.proofs.Common.{arith, refl, [], ◌∷◌, sym, subst, ◌++◌}
 use Rattle.bench_io.proofs.Bytes.{Appends-nothing}
 use Rattle.bench_cli.specs.Replies.{Exchange}
-use Rattle.bench_cli.specs.Answers.{reply_of}
 use Rattle.bench_cli.specs.Turns.{ReadSofar}
 use Rattle.bench_cli.specs.State.{State}
 use Rattle.bench_cli.proofs.Causes.{too_much_exactly}
@@ -22,36 +21,38 @@ loop-answer-init g c = record {
 pub loop-answer-smaller : goal.loop-answer-smaller
 loop-answer-smaller g c =
     let i = c.loop-answer.invariant in
-    let n = stepped _ _ _ _ _ _ _ _ _ _ _ _ i.read c.in-Ok-step.ensures in
+    let w = c.in_default.ensures in
+    let n = stepped _ _ _ _ _ _ _ _ _ _ _ _ w.0 i.read c.in-Ok-step.ensures w.1 in
     ahead_falls _ _ _ _ _ _ _ _ _ _ _ _ i.read n.0 n.1
 
 pub loop-answer-preserved : goal.loop-answer-preserved
 loop-answer-preserved g c =
     let i = c.loop-answer.invariant in
     let q = c.in-Ok-step.ensures in
-    let n = stepped _ _ _ _ _ _ _ _ _ _ _ _ i.read q in
-    let last : Exchange = record { line = q.answer.1.line; reply = reply_of c.step.new.bench c.in-Ok-step.answer } in
-    let w = rw c.present.ensures at c.in_default.ensures in
+    let w = c.in_default.ensures in
+    let n = stepped _ _ _ _ _ _ _ _ _ _ _ _ w.0 i.read q w.1 in
+    let last : Exchange = record { line = q.answer.1.line; reply = w.0 } in
     record {
       exchanges = i.exchanges ++ last ∷ [];
       read = n.0;
-      written = writes_whole i.exchanges last _ _ _ i.written w.whole;
-      sink_later = omega (arith, i.sink_later, w.later);
-      refused = noted_refused _ _ i.exchanges last (c.note.ensures c.step.new.bench) i.refused;
-      no_memory = noted_no_memory _ _ i.exchanges last (c.note.ensures c.step.new.bench) i.no_memory;
+      written = writes_whole i.exchanges last _ _ _ i.written w.2.whole;
+      sink_later = omega (arith, i.sink_later, w.2.later);
+      refused = noted_refused _ _ i.exchanges last (c.note.ensures c.step.new.bench w.0 w.1) i.refused;
+      no_memory = noted_no_memory _ _ i.exchanges last (c.note.ensures c.step.new.bench w.0 w.1) i.no_memory;
     }
 
 pub returns-in-Err-write_answer-clause-session : goal.returns-in-Err-write_answer-clause-session
 returns-in-Err-write_answer-clause-session g c =
     let i = c.loop-answer.invariant in
     let q = c.in-Ok-step.ensures in
-    let n = stepped _ _ _ _ _ _ _ _ _ _ _ _ i.read q in
-    let last : Exchange = record { line = q.answer.1.line; reply = reply_of c.step.new.bench c.in-Ok-step.answer } in
+    let w = c.in-Err-write_answer.ensures in
+    let n = stepped _ _ _ _ _ _ _ _ _ _ _ _ w.0 i.read q w.1 in
+    let last : Exchange = record { line = q.answer.1.line; reply = w.0 } in
     record {
       exchanges = i.exchanges ++ last ∷ [];
       state = c.step.new.bench;
       run = n.0.run;
-      outcome = (reads_some _ _ _ _ _ _ _ n.0, writes_part i.exchanges last _ _ _ i.written (rw c.present.ensures at c.in-Err-write_answer.ensures.front));
+      outcome = (reads_some _ _ _ _ _ _ _ n.0, writes_part i.exchanges last _ _ _ i.written w.2.front);
     }
 
 pub returns-in-Err-step-clause-session : goal.returns-in-Err-step-clause-session

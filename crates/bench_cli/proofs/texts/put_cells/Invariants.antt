@@ -1,9 +1,10 @@
 use Rattle.std.proofs.Common.{take}
-use Rattle.present_closure.specs.Finding.{members}
+use Rattle.environment_sets.specs.Members.{members}
+use Rattle.standing_view.specs.View.{places}
 use Rattle.bench_cli.specs.Texts.{cells_in}
 use Rattle.bench_cli.proofs.Joining.{PutsPieces}
 use Rattle.bench_cli.proofs.texts.put_cells.Given as goal
 
 abbrev pub invariant-loop-place : goal.invariant-loop-place
 invariant-loop-place g l = PutsPieces l.initial.failed l.failed (g.K.Sink.held l.initial.sink) (g.K.Sink.held l.sink) (g.K.Sink.faults l.initial.sink) (g.K.Sink.faults l.sink) l.is_first
-    (cells_in l.present (members l.from) (take l.place l.present.readings))
+    (cells_in l.present (places l.standing (members l.env)) (take l.place l.present.readings))

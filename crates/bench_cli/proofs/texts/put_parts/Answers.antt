@@ -1,6 +1,7 @@
 use Rattle.std.proofs.Common.{sym, ap, ◌∙◌, arith, take_all}
 use Rattle.std.specs.List.{join_with_byte}
-use Rattle.present_closure.specs.Finding.{members}
+use Rattle.environment_sets.specs.Members.{members}
+use Rattle.standing_view.specs.View.{places}
 use Rattle.bench_cli.specs.Texts.{part_names_in}
 use Rattle.bench_cli.proofs.Joining.{PutsPieces-push, PutsPieces-as, PutsPieces-none, part_names-chosen, part_names-left}
 use Rattle.bench_cli.proofs.Putting.{Puts-as}
@@ -13,13 +14,13 @@ loop-place-init g c = PutsPieces-none _ _ _
 pub loop-place-preserved : goal.loop-place-preserved
 loop-place-preserved g c = elim c.if-has_part.branch [
   | then-has_part w ↦ rw (w.failed-is, w.sink-is, w.is_first-is)
-      (PutsPieces-as (part_names-chosen (members c.args.from.now) c.args.present.now.parts c.loop-place.place c.part_at-part.result.now c.part_at-part.ensures (sym c.has_part.ensures ∙ w.if-has_part.true))
+      (PutsPieces-as (part_names-chosen (places c.args.standing.now (members c.args.env.now)) c.args.present.now.parts c.loop-place.place c.part_at-part.result.now c.part_at-part.ensures (sym c.has_part.ensures ∙ w.if-has_part.true))
       (PutsPieces-push c.part_at-part.result.now.name c.loop-place.invariant (rw (← w.bytes.ensures.bytes) w.put_piece-failed.ensures)))
   | else-has_part w ↦ rw (w.failed-is, w.sink-is, w.is_first-is)
-      (PutsPieces-as (part_names-left (members c.args.from.now) c.args.present.now.parts c.loop-place.place c.part_at-part.result.now c.part_at-part.ensures (sym c.has_part.ensures ∙ w.if-has_part.false)) c.loop-place.invariant)
+      (PutsPieces-as (part_names-left (places c.args.standing.now (members c.args.env.now)) c.args.present.now.parts c.loop-place.place c.part_at-part.result.now c.part_at-part.ensures (sym c.has_part.ensures ∙ w.if-has_part.false)) c.loop-place.invariant)
 ]
 
 pub returns : goal.returns
 returns g c =
-    Puts-as (ap (λ parts. join_with_byte 44 (part_names_in (members c.args.from.now) 0 parts)) (take_all c.loop-place.place c.args.present.now.parts (omega (arith, c.parts-place-end.ensures.value))))
+    Puts-as (ap (λ parts. join_with_byte 44 (part_names_in (places c.args.standing.now (members c.args.env.now)) 0 parts)) (take_all c.loop-place.place c.args.present.now.parts (omega (arith, c.parts-place-end.ensures.value))))
     c.loop-place.invariant.puts

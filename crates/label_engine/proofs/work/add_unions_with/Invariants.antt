@@ -1,11 +1,6 @@
-use Rattle.std.specs.Option.{option_map}
-use Rattle.environment_sets.specs.Members.{members}
-use Rattle.environment_sets.specs.Walks.{envs_left}
-use Rattle.label_engine.specs.Work.{HasUnionsSoFar}
+use Rattle.std.proofs.Common.{take}
+use Rattle.label_engine.specs.Work.{HasUnionsWith}
 use Rattle.label_engine.proofs.work.add_unions_with.Given as goal
 
-abbrev pub invariant-walk : goal.invariant-walk
-invariant-walk l = HasUnionsSoFar l.item l.label l.every.order (option_map members l.last) l.initial.due.items l.due.items
-
-abbrev pub decreases-walk : goal.decreases-walk
-decreases-walk l = envs_left l.every.order l.label l.every.all l.last
+abbrev pub invariant-loop-env : goal.invariant-loop-env
+invariant-loop-env l = HasUnionsWith l.item (take l.env-index l.label) l.initial.due.items l.due.items

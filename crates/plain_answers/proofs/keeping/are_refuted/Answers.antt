@@ -10,4 +10,4 @@ use Rattle.plain_answers.proofs.keeping.are_refuted.Goals as goal
 
 pub returns : goal.returns
 returns c =
-    IfOk-more c.clashes.result _ _ (λ b decided. subst (λ (E : Set Place). IsDecided b (IsRefutedBy (stock c.args.present.now) E)) (all_readings c.args.present.now _ _ c.requires.parts c.with_readings_of-all.ensures) decided) c.clashes.ensures
+    IfOk-more c.clashes.result _ _ (λ b decided. subst (λ (E : Set Place). IsDecided b (IsRefutedBy (stock c.args.present.now) E)) (all_readings c.args.present.now _ _ c.requires c.with_readings_of-all.ensures) decided) c.clashes.ensures

@@ -1,5 +1,5 @@
 use Rattle.std.proofs.Common.{◌≡◌, refl, sym, subst}
-use Rattle.present_closure.specs.Finding.{members}
+use Rattle.present_closure.specs.Members.{members}
 use Rattle.present_closure.specs.Closing.{Table, IsSound, Grows, IsSettled, IsClosed}
 use Rattle.present_closure.proofs.Steps.{Tells-quiet, Tells-grew, closed_when_settled, HasReadings-grows}
 use Rattle.present_closure.proofs.closing.close.Goals as goal
@@ -8,7 +8,7 @@ pub returns-in-Quiet : goal.returns-in-Quiet
 returns-in-Quiet c =
     let quiet : (c.pass.new.table ≡ c.loop.table) × IsSettled c.args.present.now (members c.args.chosen.now) c.loop.table =
     Tells-quiet c.args.present.now (members c.args.chosen.now) (λ (table : Table). IsSettled c.args.present.now (members c.args.chosen.now) table) c.loop.table c.loop.table c.pass.new.table c.pass.result c.in-Quiet.is refl c.pass.ensures in
-    subst (λ (table : Table). IsClosed c.args.present.now (members c.args.chosen.now) table) (sym quiet.0) (closed_when_settled c.args.present.now (members c.args.chosen.now) c.loop.table c.requires.closable c.loop.invariant.sound c.loop.invariant.readings quiet.1)
+    subst (λ (table : Table). IsClosed c.args.present.now (members c.args.chosen.now) table) (sym quiet.0) (closed_when_settled c.args.present.now (members c.args.chosen.now) c.loop.table c.loop.invariant.sound c.loop.invariant.readings quiet.1)
 
 pub loop-preserved : goal.loop-preserved
 loop-preserved c =

@@ -1,6 +1,6 @@
 use Rattle.std.proofs.Common.{◌≡◌, ℕ, below_more, arith}
 use Rattle.std.proofs.lemmas.Option.{slice_get_within}
-use Rattle.present_closure.specs.Finding.{members}
+use Rattle.present_closure.specs.Members.{members}
 use Rattle.present_closure.specs.Closing.{Table, IsSettledIn}
 use Rattle.present_closure.proofs.Steps.{Tells-quiet}
 use Rattle.present_closure.proofs.closing.pass.Goals as goal

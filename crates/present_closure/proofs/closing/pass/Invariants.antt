@@ -1,5 +1,5 @@
 use Rattle.std.proofs.Common.{◌≡◌, ℕ, ◌<◌}
-use Rattle.present_closure.specs.Finding.{members}
+use Rattle.present_closure.specs.Members.{members}
 use Rattle.present_closure.specs.Closing.{IsSettledIn}
 use Rattle.present_closure.proofs.closing.pass.Given as goal
 

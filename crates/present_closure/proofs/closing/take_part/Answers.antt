@@ -4,7 +4,7 @@ use Rattle.circuit_model.specs.declared.model.Instance.{Instance}
 use Rattle.circuit_model.specs.declared.present.Component.{Component}
 use Rattle.present_closure.specs.Closing.{Table, IsReady, IsInstanceAt, IsSettledFor, IsSettledPart}
 use Rattle.circuit_model.specs.Diagnoses.{AtPart}
-use Rattle.present_closure.specs.Finding.{members}
+use Rattle.present_closure.specs.Members.{members}
 use Rattle.present_closure.proofs.Instances.{instance_at_place, at_slice_get, Contains-slice_get, each_instance, each_below_more}
 use Rattle.present_closure.proofs.Settling.{Learns-quiet}
 use Rattle.present_closure.proofs.Steps.{ready_in_sound, Tells-learnt}
@@ -13,25 +13,25 @@ use Rattle.present_closure.proofs.closing.take_part.Goals as goal
 pub returns-then-not-has_part : goal.returns-then-not-has_part
 returns-then-not-has_part c = (refl, λ chosen. absurd (true≢false (sym chosen ∙ (sym c.has_part.ensures ∙ c.if-not-has_part.true))))
 
-pub take_instance-step-requires-clause-ready : goal.take_instance-step-requires-clause-ready
-take_instance-step-requires-clause-ready c =
+pub take_instance-step-requires : goal.take_instance-step-requires
+take_instance-step-requires c =
     let chosen : IsTrue (members c.args.chosen.now (AtPart c.args.place)) = sym c.has_part.ensures ∙ c.if-not-has_part.false in
     let of_part : Contains c.part_at.result.now.part c.at.result.now = Contains-slice_get c.part_at.result.now.part c.loop-index.index c.at.result.now c.at.ensures.instance in
-    let at : IsInstanceAt c.args.present.now (members c.args.chosen.now) c.args.place c.at.result.now = instance_at_place c.args.present.now (members c.args.chosen.now) c.requires.closable c.args.place chosen c.part_at.result.now c.part_at.ensures c.at.result.now of_part c.at.ensures.lawful in
+    let at : IsInstanceAt c.args.present.now (members c.args.chosen.now) c.args.place c.at.result.now = instance_at_place c.args.present.now (members c.args.chosen.now) c.requires.lawful c.args.place chosen c.part_at.result.now c.part_at.ensures c.at.result.now of_part c.at.ensures.lawful in
     let Ready : Table → Type 0 = λ table. IsReady table c.at.result.now in
-    subst Ready (sym c.loop-index.invariant.same) (ready_in_sound c.args.present.now (members c.args.chosen.now) c.args.table.now c.args.place c.at.result.now c.requires.sound at)
+    subst Ready (sym c.loop-index.invariant.same) (ready_in_sound c.args.present.now (members c.args.chosen.now) c.args.table.now c.args.place c.at.result.now c.requires.lawful.cycles c.requires.sound at)
 
 pub returns-in_default : goal.returns-in_default
 returns-in_default c =
     let chosen : IsTrue (members c.args.chosen.now (AtPart c.args.place)) = sym c.has_part.ensures ∙ c.if-not-has_part.false in
     let of_part : Contains c.part_at.result.now.part c.at.result.now = Contains-slice_get c.part_at.result.now.part c.loop-index.index c.at.result.now c.at.ensures.instance in
-    let at : IsInstanceAt c.args.present.now (members c.args.chosen.now) c.args.place c.at.result.now = instance_at_place c.args.present.now (members c.args.chosen.now) c.requires.closable c.args.place chosen c.part_at.result.now c.part_at.ensures c.at.result.now of_part c.at.ensures.lawful in
-    Tells-learnt c.args.present.now (members c.args.chosen.now) c.args.place c.at.result.now _ _ c.args.table.now c.loop-index.table c.take_instance-step.new.table c.take_instance-step.result c.requires.sound at c.loop-index.invariant.same c.in_default.not-Quiet c.take_instance-step.ensures
+    let at : IsInstanceAt c.args.present.now (members c.args.chosen.now) c.args.place c.at.result.now = instance_at_place c.args.present.now (members c.args.chosen.now) c.requires.lawful c.args.place chosen c.part_at.result.now c.part_at.ensures c.at.result.now of_part c.at.ensures.lawful in
+    Tells-learnt c.args.present.now (members c.args.chosen.now) c.args.place c.at.result.now _ _ c.args.table.now c.loop-index.table c.take_instance-step.new.table c.take_instance-step.result c.requires.lawful.cycles c.requires.sound at c.loop-index.invariant.same c.in_default.not-Quiet c.take_instance-step.ensures
 
 pub loop-index-preserved : goal.loop-index-preserved
 loop-index-preserved c =
     let quiet : (c.take_instance-step.new.table ≡ c.args.table.now) × IsSettledFor c.args.table.now c.at.result.now =
-    Learns-quiet c.args.place c.at.result.now (λ (table : Table). IsSettledFor table c.at.result.now) c.args.table.now c.loop-index.table c.take_instance-step.new.table c.take_instance-step.result c.in-Quiet.is c.loop-index.invariant.same c.take_instance-step.ensures in
+    Learns-quiet c.at.result.now (λ (table : Table). IsSettledFor table c.at.result.now) c.args.table.now c.loop-index.table c.take_instance-step.new.table c.take_instance-step.result c.in-Quiet.is c.loop-index.invariant.same c.take_instance-step.ensures in
     record {
       same = quiet.0;
       settled = each_below_more c.part_at.result.now.part c.loop-index.index c.at.result.now (λ (i : Instance). IsSettledFor c.args.table.now i) c.at.ensures.instance c.loop-index.invariant.settled quiet.1;

@@ -3,10 +3,10 @@ use Rattle.label_engine.proofs.Picks.{holds_picked}
 use Rattle.label_engine.proofs.work.Work.carry_out.Goals as goal
 
 pub put_all_in-requires : goal.put_all_in-requires
-put_all_in-requires g c =
+put_all_in-requires c =
     holds_picked c.args.slots.now c.args.self.now.slot c.args.self.now.labels c.args.self.now.recorded.items c.args.self.now.due.items c.add_unions.new.due.items c.args.self.now.agenda c.args.item.now c.requires c.in_ok-add_unions.ensures
 
 pub returns-in_err-add_unions-clause-survives : goal.returns-in_err-add_unions-clause-survives
-returns-in_err-add_unions-clause-survives g c =
-    let s = survives_same c.args.slots.now c.args.self.now in
-    record { agrees = s.agrees; same_slot = s.same_slot; added = s.added; lead = s.lead; recorded = s.recorded; born = s.born; alive = s.alive }
+returns-in_err-add_unions-clause-survives c =
+    let s = survives_same c.args.self.now in
+    record { agrees = s.agrees; same_slot = s.same_slot; added = s.added; recorded = s.recorded; born = s.born; alive = s.alive; once = s.once }

@@ -1,38 +1,42 @@
-use Rattle.std.proofs.Common.{[], refl, sym, append-nil}
+use Rattle.std.proofs.Common.{[], refl, sym, take, append-nil}
+use Rattle.environment_sets.specs.Lists.{AreDistinct}
 use Rattle.label_engine.specs.Labels.{facts_of}
 use Rattle.label_engine.specs.declared.work.Work.{Work}
-use Rattle.label_engine.proofs.Pieces.{lead_take, agrees_same, labels_met, facts_met}
+use Rattle.label_engine.proofs.Pieces.{survives_same, agrees_same, labels_met, facts_met, once_met}
 use Rattle.label_engine.proofs.work.Work.enliven.Goals as goal
 
+pub returns-in_err-alive-clause-survives : goal.returns-in_err-alive-clause-survives
+returns-in_err-alive-clause-survives c = survives_same c.args.self.now
+
 pub returns-in_err-record_all-clause-survives : goal.returns-in_err-record_all-clause-survives
-returns-in_err-record_all-clause-survives g c =
+returns-in_err-record_all-clause-survives c =
     let new : Work = record c.args.self.now { recorded = c.record_all.new.recorded } in
     record {
       agrees = agrees_same c.args.self.now new (record { labels = λ f. refl; nogoods = refl });
       same_slot = refl;
-      added = _;
-      lead = lead_take c.args.slots.now c.record_all.ensures.partly.0 c.in_ok-found.found.items c.in_ok-found.ensures.leads;
-      recorded = rw (← c.deref.ensures.value) c.record_all.ensures.partly.1;
+      added = take c.record_all.ensures.partly.0 c.in_ok-found.found.items;
+      recorded = rw (← c.deref-2.ensures.value) c.record_all.ensures.partly.1;
       born = [];
       alive = sym (append-nil (facts_of c.args.self.now.labels.nodes.items));
+      once = λ (d : AreDistinct (facts_of c.args.self.now.labels.nodes.items)). d;
     }
 
 pub returns-clause-kept : goal.returns-clause-kept
-returns-clause-kept g c = record {
+returns-clause-kept c = record {
   labels = labels_met c.enliven.result c.args.self.now.labels c.enliven.new.self c.args.fact.now c.enliven.ensures.ok c.enliven.ensures.err;
   nogoods = c.enliven.ensures.nogoods;
 }
 
 pub returns-clause-survives : goal.returns-clause-survives
-returns-clause-survives g c =
+returns-clause-survives c =
     let met = facts_met c.enliven.result c.args.self.now.labels c.enliven.new.self c.args.fact.now c.enliven.ensures.ok c.enliven.ensures.err in
     let new : Work = record c.args.self.now { recorded = c.record_all.new.recorded; labels = c.enliven.new.self } in
     record {
-      agrees = agrees_same c.args.self.now new (returns-clause-kept g c);
+      agrees = agrees_same c.args.self.now new (returns-clause-kept c);
       same_slot = refl;
-      added = _;
-      lead = lead_take c.args.slots.now c.record_all.ensures.partly.0 c.in_ok-found.found.items c.in_ok-found.ensures.leads;
-      recorded = rw (← c.deref.ensures.value) c.record_all.ensures.partly.1;
+      added = take c.record_all.ensures.partly.0 c.in_ok-found.found.items;
+      recorded = rw (← c.deref-2.ensures.value) c.record_all.ensures.partly.1;
       born = met.0;
       alive = met.1;
+      once = once_met c.enliven.result c.args.self.now.labels c.enliven.new.self c.args.fact.now c.enliven.ensures.ok c.enliven.ensures.err c.requires;
     }

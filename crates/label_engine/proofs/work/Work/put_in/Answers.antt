@@ -6,19 +6,19 @@ use Rattle.label_engine.proofs.Pieces.{carries_reached, agrees_put_there, carrie
 use Rattle.label_engine.proofs.work.Work.put_in.Goals as goal
 
 pub returns-then-reaches-clause-ok : goal.returns-then-reaches-clause-ok
-returns-then-reaches-clause-ok g c = carries_reached c.args.slots.now c.args.due.now c.args.self.now c.requires (c.reaches.ensures.0 c.if-reaches.true)
+returns-then-reaches-clause-ok c = carries_reached c.args.slots.now c.args.due.now c.args.self.now c.requires (c.reaches.ensures.0 c.if-reaches.true)
 
 pub returns-then-reaches-clause-survives : goal.returns-then-reaches-clause-survives
-returns-then-reaches-clause-survives g c = survives_same c.args.slots.now c.args.self.now
+returns-then-reaches-clause-survives c = survives_same c.args.self.now
 
 pub returns-clause-ok : goal.returns-clause-ok
-returns-clause-ok g c =
+returns-clause-ok c =
     let out : IsReached (KeptIn c.args.self.now.labels) c.args.due.now.target (members c.args.due.now.env) → ⊥ = λ r. true≢false (sym (c.reaches.ensures.1 r) ∙ c.if-reaches.false) in
     carries_put c.args.slots.now c.args.due.now c.args.self.now c.come_alive.new.self c.put_there.new.self c.in_ok-come_alive.ensures.ok out c.in_ok-put_there.ensures.ok c.target_fits.ensures c.length_fits.ensures
 
 pub returns-clause-survives : goal.returns-clause-survives
-returns-clause-survives g c =
+returns-clause-survives c =
     let out : IsReached (KeptIn c.args.self.now.labels) c.args.due.now.target (members c.args.due.now.env) → ⊥ = λ r. true≢false (sym (c.reaches.ensures.1 r) ∙ c.if-reaches.false) in
-    survives_then c.args.slots.now c.args.self.now c.come_alive.new.self c.put_there.new.self c.come_alive.ensures.survives
+    survives_then c.args.self.now c.come_alive.new.self c.put_there.new.self c.come_alive.ensures.survives
     (agrees_put_there c.args.slots.now c.args.due.now c.args.self.now c.come_alive.new.self c.put_there.new.self c.in_ok-come_alive.ensures.ok out c.in_ok-put_there.ensures.ok)
     c.put_there.ensures.slot (ap (λ v. v.items) c.put_there.ensures.recorded) c.put_there.ensures.alive

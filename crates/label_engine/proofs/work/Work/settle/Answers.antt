@@ -12,13 +12,13 @@ picks-preserved g c =
     record {
       propagates = on.propagates;
       none_due = c.in_ok-carry_out.ensures.none_due;
-      survives = survives_on c.args.slots.now c.args.self.now c.picks.self c.carry_out.new.self c.picks.invariant.survives s.agrees s.same_slot s.added s.lead s.recorded s.born s.alive;
+      survives = survives_on c.args.self.now c.picks.self c.carry_out.new.self c.picks.invariant.survives s.agrees s.same_slot s.added s.recorded s.born s.alive s.once;
     }
 
 pub returns-in_err-carry_out-clause-survives : goal.returns-in_err-carry_out-clause-survives
 returns-in_err-carry_out-clause-survives g c =
     let s = c.carry_out.ensures.survives in
-    survives_on c.args.slots.now c.args.self.now c.picks.self c.carry_out.new.self c.picks.invariant.survives s.agrees s.same_slot s.added s.lead s.recorded s.born s.alive
+    survives_on c.args.self.now c.picks.self c.carry_out.new.self c.picks.invariant.survives s.agrees s.same_slot s.added s.recorded s.born s.alive s.once
 
 pub returns-clause-ok : goal.returns-clause-ok
 returns-clause-ok g c = done c.args.slots.now c.args.self.now c.picks.self c.picks.invariant.propagates c.picks.invariant.none_due (c.is_empty.ensures.0 c.picks-test.false) c.picks.invariant.survives.agrees

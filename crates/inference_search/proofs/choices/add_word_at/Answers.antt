@@ -1,0 +1,8 @@
+use Rattle.inference_search.proofs.Finding.{IsIn-before, IsIn-last}
+use Rattle.inference_search.proofs.choices.add_word_at.Goals as goal
+
+pub returns-then-is_same_cell-clause-stays : goal.returns-then-is_same_cell-clause-stays
+returns-then-is_same_cell-clause-stays c o h = rw c.in_ok-push.ensures.items (IsIn-before _ _ _ h)
+
+pub returns-then-is_same_cell-clause-word : goal.returns-then-is_same_cell-clause-word
+returns-then-is_same_cell-clause-word c e = rw c.in_ok-push.ensures.items (IsIn-last _ _)

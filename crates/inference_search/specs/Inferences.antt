@@ -1,0 +1,19 @@
+-- Recorded inferences.
+use Rattle.std.specs.Prelude.{◌≡◌, List, [], ◌∷◌, Option, Some, None}
+use Rattle.circuit_model.specs.declared.model.Fact.{Fact}
+use Rattle.environment_sets.specs.Lists.{IsIn}
+use Rattle.propagation.specs.Propagating.{Inference}
+use Rattle.inference_search.specs.declared.inferred.Inferred.{Inferred}
+
+abbrev pub facts : Option Fact → Option Fact → List Fact
+facts None None = []
+facts (Some f) None = f ∷ []
+facts None (Some g) = g ∷ []
+facts (Some f) (Some g) = f ∷ g ∷ []
+
+abbrev pub inference : Inferred → Inference
+inference i = record { from = facts i.first i.second; to = i.to; maker = i.maker }
+
+-- the family of the inferences of a list
+abbrev pub RecordedIn : List Inferred → Inference → Type 0
+RecordedIn is j = (i : Inferred) × IsIn is i × (inference i ≡ j)

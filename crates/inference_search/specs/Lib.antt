@@ -1,0 +1,4 @@
+pub mod Slots
+pub mod Inferences
+pub mod Choices
+pub mod Found

@@ -1,0 +1,106 @@
+-- One assumption more at a free slot, and the slot freed again.
+use Rattle.std.proofs.Common.{◌≡◌, ◌≢◌, ℕ, zero, suc, ◌<◌, true, false, ◌==◌, cond, refl, sym, ap, subst, ◌∙◌, List, [], ◌∷◌, length, set, Option, Some, None, IsSome, arith}
+use Rattle.std.proofs.lemmas.Bool.Decides.{nat_tests}
+use mathlib.Core.Path.{fun_ext}
+use Rattle.circuit_model.specs.declared.model.Assumption.{Assumption}
+use Rattle.circuit_model.specs.Stock.{Stock}
+use Rattle.circuit_model.specs.Settled.{IsSettled, AreExact}
+use Rattle.circuit_model.proofs.Settled as settled_is
+use Rattle.environment_sets.specs.declared.environment.TheConstants.{SLOTS}
+use Rattle.environment_sets.specs.Members.{HasMember}
+use Rattle.environment_sets.specs.Lists.{IsIn}
+use Rattle.propagation.specs.Propagating.{AreRecorded}
+use Rattle.label_engine.specs.declared.work.Work.{Work}
+use Rattle.label_engine.specs.Engine.{Seen, label_at, IsKept, Remembers, IsAsBefore}
+use Rattle.label_engine.specs.Labels.{facts_of, KeptIn}
+use Rattle.label_engine.specs.Work.{before, IsExactBefore, IsTakenBack}
+use Rattle.inference_search.specs.Slots.{stock}
+use Rattle.inference_search.specs.Inferences.{RecordedIn}
+
+-- what contracts see
+abbrev seen : List (Option Assumption) → Work → Seen
+seen slots w = record { slots = slots; nodes = w.labels.nodes.items; nogoods = w.labels.nogoods }
+
+pub kept_exact : (slots : List (Option Assumption)) (w : Work) → IsKept slots w → AreExact (stock slots) (label_at (seen slots w)) (HasMember w.labels.nogoods)
+kept_exact slots w k = settled_is.exact (stock slots) (λ f. KeptIn w.labels (Some f)) (KeptIn w.labels None) k.remembering.settled
+
+abbrev Slots : Type 0
+Slots = List (Option Assumption)
+
+set_here : (xs : Slots) (k : ℕ) (o : Option Assumption) → k < length xs → stock (set xs k o) k ≡ o
+set_here [] k o low = absurd (omega (arith, low))
+set_here (x ∷ xs) zero o low = refl
+set_here (x ∷ xs) (suc k) o low = set_here xs k o (omega (arith, low))
+
+set_elsewhere : (xs : Slots) (k j : ℕ) (o : Option Assumption) → j ≢ k → stock (set xs k o) j ≡ stock xs j
+set_elsewhere [] k j o ne = refl
+set_elsewhere (x ∷ xs) zero zero o ne = absurd (ne refl)
+set_elsewhere (x ∷ xs) zero (suc j) o ne = refl
+set_elsewhere (x ∷ xs) (suc k) zero o ne = refl
+set_elsewhere (x ∷ xs) (suc k) (suc j) o ne = set_elsewhere xs k j o (λ e. ne (ap (λ n. suc n) e))
+
+-- a slot that was free is free again
+pub set_back : (xs : Slots) (k : ℕ) (o : Option Assumption) → stock xs k ≡ None → set (set xs k o) k None ≡ xs
+set_back [] k o free = refl
+set_back (x ∷ xs) zero o free = ap (λ y. y ∷ xs) (sym free)
+set_back (x ∷ xs) (suc k) o free = ap (λ l. x ∷ l) (set_back xs k o free)
+
+-- without the slot that was free, what is remembered is as it was
+before_is : (xs : Slots) (k : ℕ) (o : Option Assumption) → stock xs k ≡ None → before (set xs k o) k ≡ stock xs
+before_is xs k o free = fun_ext (λ j. at j)
+  where
+    at : (j : ℕ) → before (set xs k o) k j ≡ stock xs j
+    at j = elim (j == k) as (λ b. (j == k) ≡ b → cond b None (stock (set xs k o) j) ≡ stock xs j) [
+      | true ↦ λ is. let same : j ≡ k = grind (arith, nat_tests) in sym (ap (stock xs) same ∙ free)
+      | false ↦ λ out. set_elsewhere xs k j o (λ e. let no : (j == k) ≡ true = grind (arith, nat_tests) in absurd (cc))
+    ] refl
+
+module _ (slots : Slots) (slot : ℕ) (what : Assumption) (free : stock slots slot ≡ None) where
+  abbrev Now : Slots
+  Now = set slots slot (Some what)
+
+  pub there_now : slot < length slots → (now : Slots) → now ≡ Now → IsSome (stock now slot)
+  there_now low now e = rw (e, set_here slots slot (Some what) low) refl
+
+  pub remembers_now : slot < SLOTS → slot < length slots → (now : Slots) → now ≡ Now → Remembers (stock slots) slot what (stock now)
+  remembers_now below low now e = rw e (record { below = below; free = free; there = set_here slots slot (Some what) low; others = λ k ne. set_elsewhere slots slot k (Some what) ne })
+
+  -- the work begins from what is kept
+  module _ (old : Work) (kept : IsKept slots old) where
+    abbrev Begun : Work
+    Begun = record { slot = slot; labels = old.labels; recorded = old.recorded; due = old.due; agenda = old.agenda }
+
+    pub begun_exact : (now : Slots) → now ≡ Now → IsExactBefore now Begun
+    begun_exact now e = rw e (record {
+      settled = (let P : Stock ℕ → Type 0 = λ S. IsSettled S (λ f. KeptIn old.labels (Some f)) (KeptIn old.labels None) in subst P (sym (before_is slots slot (Some what) free)) kept.remembering.settled);
+      are = (let P : Stock ℕ → Type 0 = λ S. AreRecorded S (IsIn (facts_of old.labels.nodes.items)) (RecordedIn old.recorded.items) in subst P (sym (before_is slots slot (Some what) free)) kept.remembering.are);
+      lives = kept.remembering.lives;
+      once = kept.remembering.once;
+      none_due = kept.none_due;
+      nothing_waits = kept.nothing_waits;
+    })
+
+    -- memory ran out: what is kept is kept as it was
+    module _ (new : Work) (now : Slots) (now_is : now ≡ Now) (taken : IsTakenBack now Begun new) (freed : Slots) (freed_is : freed ≡ set now slot None) where
+      pub freed_same : freed ≡ slots
+      freed_same = freed_is ∙ (ap (λ l. set l slot None) now_is ∙ set_back slots slot (Some what) free)
+
+      stock_same : before now new.slot ≡ stock freed
+      stock_same = ap (λ l. before l new.slot) now_is ∙ (ap (before Now) taken.same_slot ∙ (before_is slots slot (Some what) free ∙ sym (ap stock freed_same)))
+
+      pub kept_again : IsKept freed new
+      kept_again = record {
+        remembering = record {
+          settled = (let P : Stock ℕ → Type 0 = λ S. IsSettled S (λ f. KeptIn new.labels (Some f)) (KeptIn new.labels None) in subst P stock_same taken.exact.settled);
+          are = (let P : Stock ℕ → Type 0 = λ S. AreRecorded S (IsIn (facts_of new.labels.nodes.items)) (RecordedIn new.recorded.items) in subst P stock_same taken.exact.are);
+          lives = taken.exact.lives;
+          once = taken.exact.once;
+        };
+        none_due = taken.exact.none_due;
+        nothing_waits = taken.exact.nothing_waits;
+      }
+
+      pub as_before : (before_it : Seen) → seen slots old ≡ before_it → IsAsBefore before_it (seen freed new)
+      as_before before_it e =
+          let P : Seen → Type 0 = λ s. IsAsBefore s (seen freed new) in
+          subst P e (record { slots = freed_same; labels = λ f E. taken.same (Some f) E; nogoods = λ E. taken.same None E })

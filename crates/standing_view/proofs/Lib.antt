@@ -1,0 +1,11 @@
+pub mod Aligned
+pub mod Places
+pub mod Named
+pub mod Orders
+pub mod Inserted
+pub mod Growing
+pub mod Room
+pub mod Masks
+pub mod Kept
+pub mod Asked
+pub mod Shown

@@ -1,0 +1,5 @@
+use Rattle.standing_view.proofs.Named as lemmas
+use Rattle.standing_view.proofs.laws.the_mask_is_remembered.Goals as goal
+
+pub returns : goal.returns
+returns c = lemmas.the_mask_is_remembered

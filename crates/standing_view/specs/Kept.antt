@@ -1,0 +1,15 @@
+-- How what stands is kept.
+use Rattle.std.specs.Prelude.{◌+◌, ◌≤◌, length, take, drop, vec_capacity}
+use Rattle.circuit_model.specs.Present.{MOST_PARTS, MOST_READINGS}
+use Rattle.standing_view.specs.declared.standing.Standing.TheInside.{Inside}
+use Rattle.standing_view.specs.Standing.{Stands, IsStanding}
+
+abbrev pub stands_of : Inside → Stands
+stands_of s = record { parts = take s.parts s.order.items; cells = s.cells.items; slots = drop s.parts s.order.items }
+
+-- the parts are the first slots of the order, and there is room for all that may stand
+pub record IsKept (s : Inside) : Type 0 where
+  pub standing : IsStanding (stands_of s)
+  pub count : s.parts ≤ length s.order.items
+  pub room : MOST_PARTS + MOST_READINGS ≤ vec_capacity s.order
+  pub cells_room : MOST_READINGS ≤ vec_capacity s.cells

@@ -1,0 +1,5 @@
+pub mod Standing
+pub mod Kept
+pub mod View
+pub mod Laws
+pub mod Asking
