@@ -1,9 +1,9 @@
 // The changes of a present, each with its checks.
-ghost use Rattle.std.specs.Prelude.{◌≡◌, ◌≤◌, ◌<◌, ◌+◌, ◌*◌, ◌^◌, IfOk, IfSome, MatchOption, map, nat_le, nat_lt, not, if◌then◌else◌, is_some, true, false, length, Some, None, ◌∷◌, []};
+ghost use Rattle.std.specs.Prelude.{◌≡◌, ◌≤◌, ◌<◌, ◌+◌, ◌*◌, ◌^◌, IfOk, IfSome, MatchOption, map, nat_le, nat_lt, not, is_some, true, false, length, Some, None, ◌∷◌, []};
 ghost use Rattle.std.specs.List.{list_all, All};
 ghost use Rattle.circuit_model.specs.Kinds.{RepeatsLast, cell_at, are_widths, fits_value};
 ghost use Rattle.circuit_model.specs.Present.{MOST_CYCLES, MOST_CELLS, MOST_PARTS, named_in, net_named, width_of, reading_in, IsLawfulComponent};
-ghost use Rattle.bench_cli.specs.State.{checks_of, checks_of_reading, some_applies, is_width, place_of};
+ghost use Rattle.bench_cli.specs.State.{checks_of, checks_of_reading, some_applies, is_width};
 ghost use Rattle.bench_cli.specs.Serving.{IsPadded, Changes, AreNets, PlacesPart, part_of};
 ghost use Rattle.bench_cli.specs.declared.requests.Change.TheVariants as change;
 

@@ -1,5 +1,5 @@
 // The printed label of a cell, written without memory.
-ghost use Rattle.std.specs.Prelude.{◌≡◌, ◌<◌, ◌++◌, List, codes, length};
+ghost use Rattle.std.specs.Prelude.{◌<◌, ◌++◌, List, codes, length};
 ghost use Rattle.bench_io.specs.Writing.{Writes};
 ghost use Rattle.circuit_model.specs.Printed.{Labelled, IsPrintedLabel};
 ghost use Rattle.inference_search.specs.Slots.{stock};

@@ -1,5 +1,5 @@
 // How lines are read, without memory.
-ghost use Rattle.std.specs.Prelude.{◌≡◌, ◌≤◌, ◌<◌, ◌↔◌, ℕ, [], IsTrue, MatchOption};
+ghost use Rattle.std.specs.Prelude.{◌≡◌, ◌<◌, ◌↔◌, ℕ, [], IsTrue, MatchOption};
 ghost use Rattle.std.specs.List.{All};
 ghost use Rattle.bench_cli.specs.Grammar.{words_of, is_blank, IsPrintable, IsSilent, IsNumber, IsDigit};
 ghost use Rattle.bench_cli.specs.Reading.{SkipsBlanks, EndsWord, FindsWord};

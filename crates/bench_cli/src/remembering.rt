@@ -1,6 +1,6 @@
 // What the present holds is remembered by the engine, and stands.
 ghost use Rattle.std.specs.Prelude.{◌≡◌, ◌<◌, length, None, IfOk, IfErr};
-ghost use Rattle.circuit_model.specs.Present.{MOST_PARTS, MOST_READINGS, reading_in, with_standing, without_last_part};
+ghost use Rattle.circuit_model.specs.Present.{MOST_READINGS, reading_in, with_standing, without_last_part};
 ghost use Rattle.inference_search.specs.Slots.{stock};
 ghost use Rattle.standing_view.specs.View.{StandsFor};
 

@@ -1,5 +1,5 @@
 // What the lines of a session ask.
-ghost use Rattle.std.specs.Prelude.{◌≡◌, ◌≢◌, ℕ, List, [], ◌∷◌, MatchOption, IfSome};
+ghost use Rattle.std.specs.Prelude.{◌≡◌, ℕ, List, [], ◌∷◌, MatchOption, IfSome};
 ghost use Rattle.circuit_model.specs.Kinds.{RepeatsLast};
 ghost use Rattle.circuit_model.specs.declared.model.Kind.{Kind};
 ghost use Rattle.bench_cli.specs.Grammar.{words_of, IsSilent};

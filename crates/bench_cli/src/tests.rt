@@ -241,7 +241,7 @@ const KIND_ROWS: [(&[u8], &[u8]); 16] = [
 ];
 
 // Lines and what they are asked then, with the replies to the questions alone; each of the lines is answered `ok`.
-const LABEL_ROWS: [(&[u8], &[u8], &[u8]); 9] = [
+const LABEL_ROWS: [(&[u8], &[u8], &[u8]); 12] = [
     // two adders at one net
     (
         b"net A 8\nnet B 8\nnet C 8\nnet D 8\nnet Z 8\nadd S1 A B Z\nadd S2 C D Z\nmeasure A 1\nmeasure B 2\nmeasure C 2\nmeasure D 1\nmeasure Z 4\n",
@@ -260,6 +260,11 @@ const LABEL_ROWS: [(&[u8], &[u8], &[u8]); 9] = [
         b"label Z\nlabel B\n",
         b"Z=0 {M;A}\nok\nok\n",
     ),
+    (
+        b"net A 4\nnet B 4\nnet Z 8\nmul M A B Z\nmeasure A 0\nmeasure Z 0\n",
+        b"label Z\nlabel B\n",
+        b"Z=0 {;Z}\nZ=0 {M;A}\nok\nok\n",
+    ),
     // a conjunction forces a word only where no other goes with the known ones
     (
         b"net A 32\nnet B 32\nnet Z 32\nand G A B Z\nmeasure Z 4294967295\n",
@@ -276,7 +281,13 @@ const LABEL_ROWS: [(&[u8], &[u8], &[u8]); 9] = [
         b"label B\n",
         b"B=4 {G;A,Z}\nok\n",
     ),
+    (
+        b"net A 1\nnet B 1\nnet Z 1\nand G A B Z\nmeasure Z 1\n",
+        b"label A\n",
+        b"A=1 {G;Z}\nok\n",
+    ),
     // one net at two ports
+    (b"net X 4\nnet Z 4\nxor G X X Z\n", b"label Z\n", b"ok\n"),
     (
         b"net X 4\nnet Z 4\nxor G X X Z\nmeasure X 5\n",
         b"label Z\n",

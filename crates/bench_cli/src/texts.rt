@@ -1,5 +1,5 @@
 // How cells, facts and environments are written, without memory.
-ghost use Rattle.std.specs.Prelude.{◌≡◌, ◌<◌, ◌==◌, ◌++◌, codes, decimal, length, slice_get, Some, IsTrue, ◌∷◌, [], if◌then◌else◌};
+ghost use Rattle.std.specs.Prelude.{◌<◌, ◌==◌, ◌++◌, codes, decimal, length, [], if◌then◌else◌};
 ghost use Rattle.std.specs.List.{join_with_byte};
 ghost use Rattle.bench_cli.specs.Labels.{StandsAlike};
 ghost use Rattle.bench_cli.specs.Puts.{Puts};

@@ -73,10 +73,6 @@ agreeing_or_not v (Some w ∷ xs) = elim (eq_or_not v w) [
 ]
 
 module _ (all : List (Option ℕ)) where
-  share-word : (v : ℕ) → share all (Some v) ≡ agreeing v all
-  unfolding agreeing
-  share-word v = refl
-
   times : (n : ℕ) → suc n * length all ≡ length all + n * length all
   times n = grind arith
 

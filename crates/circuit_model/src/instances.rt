@@ -1,8 +1,8 @@
 // The instances that a component stands for.
 
-ghost use Rattle.std.specs.Prelude.{◌≡◌, ◌≤◌, map, slice_index, IfOk, IsTrue};
+ghost use Rattle.std.specs.Prelude.{◌≡◌, ◌≤◌, map, IfOk, IsTrue};
 ghost use Rattle.circuit_model.specs.Inference.{ports_of};
-ghost use Rattle.circuit_model.specs.Kinds.{primitive_of, are_widths, fits_value, cell_at, instance_at, each_cycle, reset_instance, carry_instance, register, instances, three_times};
+ghost use Rattle.circuit_model.specs.Kinds.{primitive_of, are_widths, fits_value, instance_at, each_cycle, reset_instance, carry_instance, register, instances};
 ghost use Rattle.circuit_model.specs.Present.{MOST_CYCLES};
 
 use crate::model::{Cell, Instance, Kind, Part, Primitive};

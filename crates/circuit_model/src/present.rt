@@ -1,10 +1,10 @@
 // The circuit and its standing measurements.
 
-ghost use Rattle.std.specs.Prelude.{◌≡◌, ◌≤◌, ◌<◌, ◌+◌, ◌*◌, ◌++◌, ◌∷◌, [], length, slice_get, Some, None, IfOk, OnOk, OnErr, IsTrue};
+ghost use Rattle.std.specs.Prelude.{◌≡◌, ◌≤◌, ◌<◌, ◌+◌, ◌*◌, length, slice_get, Some, None, IfOk, OnOk, OnErr, IsTrue};
 ghost use Rattle.std.specs.List.{insert, position};
 ghost use Rattle.std.specs.Str.{bytes_eq};
 ghost use Rattle.circuit_model.specs.Names.{is_name};
-ghost use Rattle.circuit_model.specs.Present.{MOST_CYCLES, MOST_NETS, MOST_CELLS, MOST_PARTS, MOST_READINGS, empty_setup, named_in, is_cell, is_cell_before, reading_in, with_reading, with_cycles, with_net, with_part, without_last_part, with_standing, IsLawful, IsLawfulComponent, IsFactOf};
+ghost use Rattle.circuit_model.specs.Present.{MOST_CYCLES, MOST_NETS, MOST_CELLS, MOST_PARTS, MOST_READINGS, empty_setup, named_in, is_cell_before, reading_in, with_reading, with_cycles, with_net, with_part, without_last_part, with_standing, IsLawful, IsLawfulComponent, IsFactOf};
 
 use crate::limits;
 use crate::model::{Cell, Fact, Kind, Part};

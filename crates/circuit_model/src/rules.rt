@@ -1,6 +1,6 @@
 // The rules that a kind has for the widths of its ports and for its value.
 
-ghost use Rattle.std.specs.Prelude.{◌≡◌, length};
+ghost use Rattle.std.specs.Prelude.{◌≡◌};
 ghost use Rattle.circuit_model.specs.Kinds as rules;
 
 use crate::model::Kind;

@@ -1,6 +1,6 @@
 // Kinds whose relation holds bit by bit.
 
-ghost use Rattle.std.specs.Prelude.{◌≡◌, ℕ, ◌<◌, ◌≤◌, ◌-◌, ◌^◌, ◌⊎◌, ◌∷◌, [], IfSome, IsNone, bit_xor};
+ghost use Rattle.std.specs.Prelude.{◌≡◌, ◌<◌, ◌≤◌, ◌-◌, ◌^◌, ◌⊎◌, ◌∷◌, [], IfSome, IsNone, bit_xor};
 ghost use Rattle.std.specs.Option.{option_map};
 ghost use Rattle.circuit_model.specs.declared.model.Primitive.TheVariants.{And, Or, Xor, Nand, Nor, Xnor};
 ghost use Rattle.circuit_model.specs.Inference.{IsInference};

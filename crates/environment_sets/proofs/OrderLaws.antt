@@ -1,5 +1,5 @@
 -- The order of sets is an order.
-use Rattle.std.proofs.Common.{◌≡◌, ℕ, ◌<◌, ◌≤◌, ◌+◌, length, drop, get_or, add-one, drop-cons, Bool, true, false, not, ◌&&◌, if◌then◌else◌, ◌⊎◌, inl, inr, true≢false, refl, sym, ap, ap₂, ◌∙◌, List, [], ◌∷◌, nat_cmp, arith, Ordering, Less, Equal, Greater}
+use Rattle.std.proofs.Common.{◌≡◌, ℕ, ◌≤◌, length, drop, Bool, true, false, not, ◌&&◌, if◌then◌else◌, ◌⊎◌, inl, inr, true≢false, refl, sym, ap, ap₂, ◌∙◌, List, [], ◌∷◌, nat_cmp, arith, Ordering, Less, Equal, Greater}
 use Rattle.std.specs.List.{count_by}
 use Rattle.std.proofs.lemmas.Bool.Decides.{nat_tests}
 use Rattle.std.proofs.lemmas.List.{drop_all}
@@ -80,10 +80,6 @@ module _ {N : Type 0} where
         | true ↦ λ is. agree k (all k is)
         | false ↦ λ out. out ∙ sym (not_true (F k) (λ there. true≢false (sym there ∙ (sym (agree k (others k there)) ∙ out))))
       ] refl)
-
--- from the i-th name on
-pub by_first-drop : (order : List ℕ) (E F : Set ℕ) (i : ℕ) → i < length order → by_first (drop i order) E F ≡ at_name (E (get_or order i 0)) (F (get_or order i 0)) (by_first (drop (i + 1) order) E F)
-by_first-drop order E F i low = rw (add-one, drop-cons order i 0) refl
 
 pub by_first-past : (order : List ℕ) (E F : Set ℕ) (i : ℕ) → length order ≤ i → by_first (drop i order) E F ≡ Equal
 by_first-past order E F i high = rw (drop_all i order high) refl

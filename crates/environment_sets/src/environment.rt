@@ -17,10 +17,8 @@ pub struct Env {
 
 impl Env {
     ghost use Rattle.std.specs.Prelude.{◌<◌, ◌↔◌, IsTrue};
-    ghost use Rattle.std.specs.List.{count_by};
     ghost use Rattle.environment_sets.specs.Sets.{no_elements, only, size_below, is_within, ◌∪◌, ◌∩◌, ◌∖◌, ◌⊆◌};
     ghost use Rattle.environment_sets.specs.Members.{members};
-    ghost use Rattle.environment_sets.specs.Lists.{IsIn};
     ghost use Rattle.environment_sets.specs.Orders.{compare_in, by_first, ListsAll, IsOrder};
 
     /// The environment with no slot.

@@ -1,6 +1,7 @@
 // The engine: what is remembered, and its labels and nogoods.
 
-ghost use Rattle.std.specs.Prelude.{◌≡◌, ◌↔◌, ℕ, None, Some, Err, IfOk, IsTrue, OnErr, MatchOption};
+ghost use Rattle.std.specs.Prelude.{◌≡◌, ◌<◌, ◌↔◌, ℕ, None, Some, Err, IfOk, IfSome, IsTrue, OnErr, MatchOption};
+ghost use Rattle.environment_sets.specs.declared.environment.TheConstants.{SLOTS};
 ghost use Rattle.environment_sets.specs.Members.{HasMember};
 ghost use Rattle.circuit_model.specs.declared.model.Assumption.TheVariants.{Reading};
 ghost use Rattle.circuit_model.specs.Settled.{AreExact};
@@ -15,13 +16,16 @@ use nogood_store::Nogoods;
 use propagation_agenda::{Agenda, Picker};
 use std::alloc::{AllocError, Global};
 use std::marker::Model;
+use thiserror::Error;
 
 /// Why an assumption was not remembered. All is as before.
-#[derive(Clone, Copy, Debug, PartialEq, Eq)]
+#[derive(Clone, Copy, Debug, PartialEq, Eq, Error)]
 pub enum Stop {
     /// Each slot stands for an assumption.
+    #[error("each slot stands for an assumption")]
     NoSlot,
     /// Memory ran out.
+    #[error("memory ran out")]
     OutOfMemory,
 }
 
@@ -106,7 +110,8 @@ impl Engine {
 
     /// The slot that stands for a reading of the fact, if one does.
     pub fn slot_of(&self, fact: Fact) -> Option<u16>
-        ensures { MatchOption result ((k : ℕ) → stock self.now.slots k ≡ Some (Reading fact) → ⊥) (λ k. stock self.now.slots k ≡ Some (Reading fact)) }
+        ensures slot { MatchOption result ((k : ℕ) → stock self.now.slots k ≡ Some (Reading fact) → ⊥) (λ k. stock self.now.slots k ≡ Some (Reading fact)) }
+        ensures below { IfSome result (λ k. k < SLOTS) }
     {
         for slot in 0..self.slots.count() as u16 {
             if stands_for(&self.slots, slot as u8, &fact) {

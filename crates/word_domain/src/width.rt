@@ -1,6 +1,6 @@
 // A number of bits, and the words of so many bits.
 
-ghost use Rattle.std.specs.Prelude.{ℕ, ◌≡◌, ◌+◌, ◌-◌, ◌*◌, ◌%◌, ◌^◌, ◌<◌, ◌≤◌, ◌↔◌, IsTrue, IsSome, IfSome, ◌&&◌, nat_le, if◌then◌else◌, Some};
+ghost use Rattle.std.specs.Prelude.{ℕ, ◌≡◌, ◌+◌, ◌-◌, ◌*◌, ◌%◌, ◌^◌, ◌<◌, ◌≤◌, ◌↔◌, IsTrue, IfSome, ◌&&◌, nat_le, if◌then◌else◌, Some};
 ghost use Rattle.word_domain.specs.Words.{IsQuotient};
 
 use std::marker::Model;

@@ -1,4 +1,4 @@
-use Rattle.std.proofs.Common.{◌≡◌, ◌⊎◌, ◌<◌, inl, inr, sym, subst, arith}
+use Rattle.std.proofs.Common.{inl, inr, arith}
 use Rattle.environment_sets.specs.Lists.{IsStrict}
 use Rattle.environment_sets.proofs.Listings.{same_listing}
 use Rattle.environment_sets.proofs.OrderLaws.{order_is_strict}
@@ -6,7 +6,7 @@ use Rattle.circuit_model.specs.Closure.{fact}
 use Rattle.circuit_model.specs.Stock.{IsInLabel}
 use Rattle.circuit_model.specs.Diagnoses.{Place}
 use Rattle.circuit_model.specs.Present.{Setup}
-use Rattle.circuit_model.specs.Printed.{Labelled, IsPrintedBefore, names_in_order}
+use Rattle.circuit_model.specs.Printed.{IsPrintedBefore, names_in_order}
 use Rattle.circuit_model.specs.Whole.{stock}
 use Rattle.circuit_model.proofs.laws.printed_labels_are_unique.Goals as goal
 
