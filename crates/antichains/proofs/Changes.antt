@@ -1,16 +1,19 @@
 -- Changes of antichains.
-use Rattle.std.proofs.Common.{◌≡◌, ℕ, ◌⊎◌, inl, inr, Bool, true, false, not, IsTrue, ◌||◌, ◌↔◌, true≢false, refl, sym, ap, subst, ◌∙◌, List, [], ◌∷◌, ◌++◌}
-use Rattle.std.proofs.lemmas.List.{map-append}
+use Rattle.std.proofs.Common.{◌≡◌, ℕ, inl, inr, Bool, not, IsTrue, ◌↔◌, refl, sym, ap, subst, ◌∙◌, List, [], ◌∷◌, ◌++◌, length}
+use Rattle.std.proofs.lemmas.Bool.{false≢true, both_ways, not-true, not_from_false, false_from_ne_true, or_left, or_right, or_cases}
+use Rattle.std.proofs.lemmas.List.{map-append, length-map}
 use Rattle.std.specs.List.{filter, list_any}
 use Rattle.environment_sets.specs.declared.environment.Env.{Env}
 use Rattle.environment_sets.specs.declared.environment.TheConstants.{SLOTS}
-use Rattle.environment_sets.specs.Sets.{Set, ◌⊆◌, is_within}
-use Rattle.environment_sets.specs.Members.{members, sets}
-use Rattle.environment_sets.specs.Lists.{IsIn}
-use Rattle.environment_sets.proofs.Listings.{IsIn-push, IsIn-front, IsIn-last, IsRising-push, IsIn-filter, IsIn-kept, IsRising-filter, map-filter}
+use Rattle.environment_sets.specs.Sets.{Set, ◌⊆◌, IsBelow, is_within}
+use Rattle.environment_sets.specs.Families.{IsCovered, IsAntichain, Adds, Drops, AreInside}
+use Rattle.environment_sets.specs.Members.{members, sets, HasMember}
+use Rattle.environment_sets.specs.Lists.{IsIn, AreDistinct}
+use Rattle.environment_sets.proofs.Families.{Adds-antichain, Drops-antichain}
+use Rattle.environment_sets.proofs.Listings.{sets-push, IsIn-push, IsIn-front, IsIn-last, IsIn-filter, IsIn-kept, IsRising-filter, map-filter}
+use Rattle.environment_sets.proofs.Membership.{AreDistinct-push, IsIn-map}
 use Rattle.environment_sets.proofs.Slots.{slots_are_below}
 use Rattle.environment_sets.proofs.Within.{within_holds, holds_within}
-use Rattle.antichains.specs.Families.{Covers, AreApart, IsAntichain, Adds, Drops}
 
 -- the test that a set does not contain the environment
 abbrev pub leaves_out : Env → Set ℕ → Bool
@@ -20,19 +23,11 @@ leaves_out e F = not (is_within SLOTS (members e) F)
 abbrev pub lacks : ℕ → Set ℕ → Bool
 lacks slot F = not (F slot)
 
-not_of : (b : Bool) → IsTrue (not b) → IsTrue b → ⊥
-not_of true h k = true≢false (sym h)
-not_of false h k = true≢false (sym k)
-
-of_not : (b : Bool) → (IsTrue b → ⊥) → IsTrue (not b)
-of_not true h = absurd (h refl)
-of_not false h = refl
-
 pub leaves_out_holds : (e : Env) (F : Set ℕ) → IsTrue (leaves_out e F) → members e ⊆ F → ⊥
-leaves_out_holds e F h within = not_of (is_within SLOTS (members e) F) h (holds_within SLOTS (members e) F within)
+leaves_out_holds e F h within = both_ways (is_within SLOTS (members e) F) (not-true (is_within SLOTS (members e) F) h) (holds_within SLOTS (members e) F within)
 
 pub holds_leaves_out : (e : Env) (F : Set ℕ) → (members e ⊆ F → ⊥) → IsTrue (leaves_out e F)
-holds_leaves_out e F h = of_not (is_within SLOTS (members e) F) (λ is. h (within_holds SLOTS (members e) F (slots_are_below e) is))
+holds_leaves_out e F h = not_from_false (is_within SLOTS (members e) F) (false_from_ne_true (is_within SLOTS (members e) F) (λ is. h (within_holds SLOTS (members e) F (slots_are_below e) is)))
 
 -- what is left by a test is what was there without what fails it
 drops_of_filter : (test : Set ℕ → Bool) (P : Set ℕ → Type 0) → ((F : Set ℕ) → IsTrue (test F) → P F → ⊥) → ((F : Set ℕ) → (P F → ⊥) → IsTrue (test F)) → (Es : List (Set ℕ)) → Drops (IsIn Es) (IsIn (filter test Es)) P
@@ -47,9 +42,6 @@ pub record IsLeft (test : Set ℕ → Bool) (old new : List Env) : Type 0 where
 sets-left : (test : Set ℕ → Bool) (old new : List Env) → IsLeft test old new → sets new ≡ filter test (sets old)
 sets-left test old new left = ap sets left.filtered ∙ map-filter members test old
 
-pub antichain-left : (test : Set ℕ → Bool) (old new : List Env) → IsLeft test old new → IsAntichain (sets old) → IsAntichain (sets new)
-antichain-left test old new left apart = subst IsAntichain (sym (sets-left test old new left)) (IsRising-filter test AreApart (sets old) apart)
-
 pub drops-left : (test : Set ℕ → Bool) (P : Set ℕ → Type 0) → ((F : Set ℕ) → IsTrue (test F) → P F → ⊥) → ((F : Set ℕ) → (P F → ⊥) → IsTrue (test F)) → (old new : List Env) → IsLeft test old new → Drops (IsIn (sets old)) (IsIn (sets new)) P
 drops-left test P fails passes old new left =
     let Q : List (Set ℕ) → Type 0 = λ Es. Drops (IsIn (sets old)) (IsIn Es) P in subst Q (sym (sets-left test old new left)) (drops_of_filter test P fails passes (sets old))
@@ -58,10 +50,17 @@ pub drops_over-left : (e : Env) (old new : List Env) → IsLeft (leaves_out e) o
 drops_over-left e old new left = drops-left (leaves_out e) (λ F. members e ⊆ F) (leaves_out_holds e) (holds_leaves_out e) old new left
 
 pub drops_slot-left : (slot : ℕ) (old new : List Env) → IsLeft (lacks slot) old new → Drops (IsIn (sets old)) (IsIn (sets new)) (λ F. IsTrue (F slot))
-drops_slot-left slot old new left = drops-left (lacks slot) (λ F. IsTrue (F slot)) (λ F h k. not_of (F slot) h k) (λ F h. of_not (F slot) h) old new left
+drops_slot-left slot old new left = drops-left (lacks slot) (λ F. IsTrue (F slot)) (λ F h k. both_ways (F slot) (not-true (F slot) h) k) (λ F h. not_from_false (F slot) (false_from_ne_true (F slot) h)) old new left
 
-sets-push : (es : List Env) (e : Env) → sets (es ++ e ∷ []) ≡ sets es ++ members e ∷ []
-sets-push es e = map-append members es (e ∷ [])
+-- what the list of an antichain keeps: no set stands twice, and none contains another
+abbrev pub ListsAntichain : List Env → Type 0
+ListsAntichain es = AreDistinct (sets es) × IsAntichain (HasMember es)
+
+pub antichain-left : (test : Set ℕ → Bool) (P : Set ℕ → Type 0) (old new : List Env) → IsLeft test old new → Drops (HasMember old) (HasMember new) P → ListsAntichain old → ListsAntichain new
+antichain-left test P old new left drops (distinct, antichain) = (
+  subst AreDistinct (sym (sets-left test old new left)) (IsRising-filter test (λ x y. x ≡ y → ⊥) (sets old) distinct),
+  Drops-antichain (HasMember old) (HasMember new) P drops antichain,
+)
 
 pub adds-left : (e : Env) (old left new : List Env) → IsLeft (leaves_out e) old left → new ≡ left ++ e ∷ [] → Adds (IsIn (sets old)) (IsIn (sets new)) (members e)
 adds-left e old left new is pushed =
@@ -70,34 +69,24 @@ adds-left e old left new is pushed =
       λ h. elim h [ inl same ↦ IsIn-last (sets left) (members e) F same | inr k ↦ IsIn-front (sets left) (members e) F ((drops_over-left e old left is F).1 k) ],
     ))
 
-pub antichain-added : (e : Env) (old left new : List Env) → IsLeft (leaves_out e) old left → new ≡ left ++ e ∷ [] → (Covers (IsIn (sets old)) (members e) → ⊥) → IsAntichain (sets old) → IsAntichain (sets new)
-antichain-added e old left new is pushed uncovered apart =
-    subst IsAntichain (sym (ap sets pushed ∙ sets-push left e)) (IsRising-push AreApart (sets left) (members e) (antichain-left (leaves_out e) old left is apart) (λ F h.
-    let kept : IsIn (sets old) F × (members e ⊆ F → ⊥) = (drops_over-left e old left is F).0 h in
-    (λ within. uncovered (F, kept.0, within), kept.1)))
+pub antichain-added : (e : Env) (old left new : List Env) → IsLeft (leaves_out e) old left → new ≡ left ++ e ∷ [] → (IsCovered (HasMember old) (members e) → ⊥) → ListsAntichain old → ListsAntichain new
+antichain-added e old left new is pushed uncovered (distinct, antichain) =
+    let kept : ListsAntichain left = antichain-left (leaves_out e) (λ F. members e ⊆ F) old left is (drops_over-left e old left is) (distinct, antichain) in
+    let apart : IsIn (sets left) (members e) → ⊥ = λ h. ((drops_over-left e old left is (members e)).0 h).1 (λ k inside. inside) in (
+      subst AreDistinct (sym (ap sets pushed ∙ sets-push left e)) (AreDistinct-push (sets left) (members e) kept.0 apart),
+      Adds-antichain (HasMember old) (HasMember new) (members e) (adds-left e old left new is pushed) uncovered antichain,
+    )
 
 -- some environment of the list is a subset of this one
 abbrev pub is_covered : List Env → Env → Bool
 is_covered es env = list_any (λ (e : Env). is_within SLOTS (members e) (members env)) es
 
-or_left : (a b : Bool) → IsTrue a → IsTrue (a || b)
-or_left true b h = refl
-or_left false b h = absurd (true≢false (sym h))
-
-or_right : (a b : Bool) → IsTrue b → IsTrue (a || b)
-or_right true b h = refl
-or_right false b h = h
-
-or_cases : (a b : Bool) → IsTrue (a || b) → IsTrue a ⊎ IsTrue b
-or_cases true b h = inl refl
-or_cases false b h = inr h
-
-covered_holds : (es : List Env) (env : Env) → IsTrue (is_covered es env) → Covers (IsIn (sets es)) (members env)
-covered_holds [] env h = absurd (true≢false (sym h))
+covered_holds : (es : List Env) (env : Env) → IsTrue (is_covered es env) → IsCovered (IsIn (sets es)) (members env)
+covered_holds [] env h = absurd (false≢true h)
 covered_holds (e ∷ es) env h =
     elim (or_cases (is_within SLOTS (members e) (members env)) (is_covered es env) h) [
       | inl is ↦ (members e, inl refl, within_holds SLOTS (members e) (members env) (slots_are_below e) is)
-      | inr later ↦ let found : Covers (IsIn (sets es)) (members env) = covered_holds es env later in (found.0, inr found.1, found.2)
+      | inr later ↦ let found : IsCovered (IsIn (sets es)) (members env) = covered_holds es env later in (found.0, inr found.1, found.2)
     ]
 
 holds_covered : (es : List Env) (env : Env) (M : Set ℕ) → IsIn (sets es) M → M ⊆ members env → IsTrue (is_covered es env)
@@ -107,5 +96,25 @@ holds_covered (e ∷ es) env M (inl same) within =
     or_left (is_within SLOTS (members e) (members env)) (is_covered es env) (holds_within SLOTS (members e) (members env) inside)
 holds_covered (e ∷ es) env M (inr h) within = or_right (is_within SLOTS (members e) (members env)) (is_covered es env) (holds_covered es env M h within)
 
-pub covers-any : (es : List Env) (env : Env) (r : Bool) → r ≡ is_covered es env → IsTrue r ↔ Covers (IsIn (sets es)) (members env)
+pub covers-any : (es : List Env) (env : Env) (r : Bool) → r ≡ is_covered es env → IsTrue r ↔ IsCovered (IsIn (sets es)) (members env)
 covers-any es env r is = (λ h. covered_holds es env (sym is ∙ h), λ (M, member, within). is ∙ holds_covered es env M member within)
+
+-- the sets of the list that are inside the mask
+pub inside-left : (es left : List Env) (mask : Set ℕ) (n : ℕ) → left ≡ filter (λ e. is_within SLOTS (members e) mask) es → n ≡ length left → AreDistinct (sets es) → AreInside (HasMember es) mask n
+inside-left es left mask n filtered count distinct =
+    let test : Set ℕ → Bool = λ E. is_within SLOTS E mask in
+    let is : IsLeft test es left = record { filtered = filtered } in
+    record {
+      inside = filter test (sets es);
+      exact = record {
+        distinct = IsRising-filter test (λ x y. x ≡ y → ⊥) (sets es) distinct;
+        exact = λ E. (
+          λ h. let r : IsIn (sets es) E × IsTrue (test E) = IsIn-filter test (sets es) E h in (r.0, within_holds SLOTS E mask (member_below es E r.0) r.1),
+          λ (member, inside). IsIn-kept test (sets es) E member (holds_within SLOTS E mask inside),
+        );
+      };
+      count = count ∙ (sym (length-map left members) ∙ ap length (sets-left test es left is));
+    }
+  where
+    member_below : (es : List Env) (E : Set ℕ) → HasMember es E → IsBelow SLOTS E
+    member_below es E h = let e : (e : Env) × IsIn es e × (members e ≡ E) = IsIn-map members es E h in subst (IsBelow SLOTS) e.2 (slots_are_below e.0)

@@ -2,19 +2,15 @@
 ghost use Rattle.std.specs.Prelude.{◌≡◌, ◌<◌, ◌↔◌, IsTrue, OnErr, IfSome, Some, Ok, []};
 ghost use Rattle.std.specs.Option.{ForSome, option_map, option_copied};
 ghost use Rattle.environment_sets.specs.Sets.{◌⊆◌};
-ghost use Rattle.environment_sets.specs.Members.{members, sets, HasMember};
+ghost use Rattle.environment_sets.specs.Members.{members, HasMember};
+ghost use Rattle.environment_sets.specs.Families.{IsCovered, IsAntichain, Adds, Drops, AreInside};
 ghost use Rattle.environment_sets.specs.Orders.{ListsAll, IsOrder};
 ghost use Rattle.environment_sets.specs.Walks.{ComesAfter, GivesNextEnv, envs_left};
-ghost use Rattle.antichains.specs.Families.{Covers, Adds, Drops, IsAntichain};
 ghost use Rattle.antichains.specs.Nearest.{IsFirstOf};
 
 use environment_sets::{Env, SLOTS};
-use std::alloc::Global;
+use std::alloc::{AllocError, Global};
 use std::marker::Model;
-
-/// Memory ran out.
-#[derive(Clone, Copy, Debug, PartialEq, Eq)]
-pub struct OutOfMemory;
 
 /// What an insertion did.
 #[derive(Clone, Copy, Debug, PartialEq, Eq)]
@@ -25,7 +21,8 @@ pub enum Inserted {
     Added,
 }
 
-/// A set of environments none of which contains another: the minimal ones of those that were inserted.
+/// A set of environments none of which contains another: the minimal ones of those that were inserted, which is how
+/// labels and nogoods are kept (de Kleer 1986).
 #[derive(Drop)]
 pub struct Antichain {
     list: Vec<Env>,
@@ -34,14 +31,15 @@ pub struct Antichain {
 impl Model for Antichain {
     ghost use Rattle.std.specs.Prelude.{List};
     ghost use Rattle.environment_sets.specs.declared.environment.Env.{Env};
-    ghost use Rattle.environment_sets.specs.Members.{sets};
-    ghost use Rattle.antichains.specs.Families.{IsAntichain};
+    ghost use Rattle.environment_sets.specs.Families.{IsAntichain};
+    ghost use Rattle.environment_sets.specs.Lists.{AreDistinct};
+    ghost use Rattle.environment_sets.specs.Members.{sets, HasMember};
 
     ghost Value = { List Env };
 
     ghost view = { λ a. a.list.items };
 
-    ghost invariant = { λ a. IsAntichain (sets a.list.items) };
+    ghost invariant = { λ a. AreDistinct (sets a.list.items) × IsAntichain (HasMember a.list.items) };
 }
 
 impl Antichain {
@@ -56,24 +54,32 @@ impl Antichain {
 
     /// Puts the environment in, unless a member is a subset of it, and drops the members that contain it.
     /// `Covered` takes no memory. After an error the members are as before.
-    pub fn insert(&mut self, env: Env) -> Result<Inserted, OutOfMemory>
-        ensures covered { (result ≡ Ok Inserted.Covered) ↔ Covers (HasMember self.old) (members env) }
+    pub fn insert(&mut self, env: Env) -> Result<Inserted, AllocError>
+        ensures covered { (result ≡ Ok Inserted.Covered) ↔ IsCovered (HasMember self.old) (members env) }
         ensures covered_same { (result ≡ Ok Inserted.Covered) → self.new ≡ self.old }
         ensures added { (result ≡ Ok Inserted.Added) → Adds (HasMember self.old) (HasMember self.new) (members env) }
         ensures err { OnErr result (self.new ≡ self.old) }
-        ensures antichain { IsAntichain (sets self.new) }
+        ensures antichain { IsAntichain (HasMember self.new) }
     {
         if self.covers(&env) {
             return Ok(Inserted::Covered);
         }
-        if self.list.reserve(1).is_err() {
-            return Err(OutOfMemory);
-        }
+        self.list.reserve(1)?;
         self.list.retain(|kept| !env.is_subset(kept));
         match self.list.push(env) {
             Ok(()) => Ok(Inserted::Added),
             Err(_) => unreachable!(),
         }
+    }
+
+    /// How many members are inside the mask.
+    pub fn count_inside(&self, mask: &Env) -> usize
+        ensures { AreInside (HasMember self.now) (members mask.now) result }
+    {
+        self.list
+            .iter()
+            .filter(|member| member.is_subset(mask))
+            .count()
     }
 
     /// The members, in no order that is told.
@@ -85,32 +91,31 @@ impl Antichain {
 
     /// Whether a member is a subset of the environment.
     pub fn covers(&self, env: &Env) -> bool
-        ensures covered { IsTrue result ↔ Covers (HasMember self.now) (members env.now) }
-        ensures antichain { IsAntichain (sets self.now) }
+        ensures { IsTrue result ↔ IsCovered (HasMember self.now) (members env.now) }
     {
         self.list.iter().any(|member| member.is_subset(env))
     }
 
-    /// Drops the members that have the slot.
+    /// Drops the members that have the slot, which is below [`SLOTS`]. It takes no memory.
     pub fn drop_slot(&mut self, slot: u16)
         requires { slot < SLOTS }
         ensures dropped { Drops (HasMember self.old) (HasMember self.new) (λ F. IsTrue (F slot)) }
-        ensures antichain { IsAntichain (sets self.new) }
+        ensures antichain { IsAntichain (HasMember self.new) }
     {
         self.list.retain(|member| !member.has(slot));
     }
 
-    /// Drops the members that contain the environment.
+    /// Drops the members that contain the environment. It takes no memory.
     pub fn drop_over(&mut self, env: &Env)
         ensures dropped { Drops (HasMember self.old) (HasMember self.new) (λ F. members env.now ⊆ F) }
-        ensures antichain { IsAntichain (sets self.new) }
+        ensures antichain { IsAntichain (HasMember self.new) }
     {
         self.list.retain(|member| !env.is_subset(member));
     }
 
     /// The first member that is inside the mask and comes after `last`, or after nothing: the first of all. Calls
     /// that are each given the answer before go through all members inside the mask, and the count of those that
-    /// are left falls from call to call.
+    /// are left falls from call to call. `order` has distinct slots, among them all of the mask and of `last`.
     pub fn next_after(&self, order: &[u16], mask: &Env, last: Option<&Env>) -> Option<Env>
         requires slots { IsOrder SLOTS order.now }
         requires mask_listed { ListsAll order.now (members mask.now) }

@@ -3,4 +3,4 @@
 
 mod antichain;
 
-pub use antichain::{Antichain, Inserted, OutOfMemory};
+pub use antichain::{Antichain, Inserted};

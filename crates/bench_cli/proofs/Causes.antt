@@ -1,7 +1,8 @@
 -- When each status of a session comes.
 use Rattle.std.proofs.Common.{◌≡◌, ◌↔◌, ℕ, ◌+◌, ◌≤◌, List, ◌++◌, length, Option, Some, None, arith, inl, inr, ap, length-append, length-drop, refl}
 use Rattle.std.specs.Io.KnownBytes.{Keeps}
-use Rattle.bench_io.specs.Lines.{MOST_BYTES}
+use Rattle.bench_io.specs.Streams.{Telling}
+use Rattle.bench_io.specs.declared.limits.TheConstants.{MOST_BYTES}
 use Rattle.bench_cli.specs.Causes.{TakesTooMuch}
 use Rattle.bench_cli.specs.Replies.{Exchange}
 use Rattle.bench_cli.specs.Session.{WhereTold, Outcome, Session, ReadsAll, ReadsTo, ReadsMost, ReadsSome}
@@ -48,5 +49,5 @@ exactly TooMuch es l₀ l₁ h₀ h₁ k = where_map _ _ (from_most _) l₀ l₁
 exactly NoMemory es l₀ l₁ h₀ h₁ (inl k) = where_map _ _ (from_all NoMemory (λ e. cc) _) l₀ l₁ k.reads
 exactly NoMemory es l₀ l₁ h₀ h₁ (inr k) = where_map _ _ (from_kept NoMemory (λ e. cc)) l₀ l₁ (where_kept l₀ l₁ k.unread)
 
-pub too_much_exactly : (s : Status) (l₀ l₁ h₀ h₁ : Option (List ℕ)) → Session s l₀ l₁ h₀ h₁ → WhereTold l₀ l₁ (λ i l. (s ≡ TooMuch) ↔ TakesTooMuch i l)
-too_much_exactly s l₀ l₁ h₀ h₁ k = exactly s k.exchanges l₀ l₁ h₀ h₁ k.outcome
+pub too_much_exactly : (s : Status) (t₀ t₁ k₀ k₁ : Telling) → Session s t₀ t₁ k₀ k₁ → WhereTold t₀.bytes t₁.bytes (λ i l. (s ≡ TooMuch) ↔ TakesTooMuch i l)
+too_much_exactly s t₀ t₁ k₀ k₁ k = exactly s k.exchanges t₀.bytes t₁.bytes k₀.bytes k₁.bytes k.outcome

@@ -1,5 +1,5 @@
 -- Pieces with commas between them, put one after another.
-use Rattle.std.proofs.Common.{◌≡◌, ℕ, ◌+◌, ◌<◌, Bool, true, false, if◌then◌else◌, cond, List, [], ◌∷◌, ◌++◌, Option, Some, refl, sym, subst, ◌∙◌, ap, append_assoc, arith, length, length-take-le, take, suc, slice_get, map}
+use Rattle.std.proofs.Common.{◌≡◌, ℕ, ◌+◌, ◌<◌, Bool, true, false, if◌then◌else◌, cond, List, [], ◌∷◌, ◌++◌, Some, refl, sym, subst, ◌∙◌, ap, append_assoc, arith, length, length-take-le, take, suc, slice_get, map}
 use Rattle.std.specs.List.{filter, join_with_byte}
 use Rattle.std.proofs.lemmas.List.{take_more, map-append, append-nil}
 use Rattle.std.proofs.lemmas.List.Elements.{filter_more}
@@ -8,7 +8,8 @@ use Rattle.environment_sets.specs.Sets.{Set}
 use Rattle.circuit_model.specs.declared.model.Fact.{Fact}
 use Rattle.circuit_model.specs.declared.present.Component.{Component}
 use Rattle.circuit_model.specs.Diagnoses.{Place, AtPart, AtCell}
-use Rattle.circuit_model.specs.Present.{Setup}
+use Rattle.circuit_model.specs.Present.{PresentView}
+use Rattle.bench_io.specs.Streams.{Telling}
 use Rattle.bench_cli.specs.Puts.{Puts}
 use Rattle.bench_cli.specs.Texts.{cell_text, part_names_in, cells_in}
 use Rattle.bench_cli.proofs.Putting.{Puts-then, Puts-as, Puts-nothing}
@@ -27,22 +28,22 @@ join-push (y ∷ []) x = refl
 join-push (y ∷ z ∷ xs) x = rw (join-push (z ∷ xs) x) (sym (append_assoc y _ _))
 
 -- the pieces so far were put, with commas between them; and whether none was
-pub record PutsPieces (failed_before failed_now : Bool) (before now : Option (List ℕ)) (faults_before faults_now : ℕ) (is_first : Bool) (pieces : List (List ℕ)) : Type 0 where
-  pub puts : Puts failed_before failed_now before now faults_before faults_now (join_with_byte 44 pieces)
+pub record PutsPieces (failed_before failed_now : Bool) (before now : Telling) (is_first : Bool) (pieces : List (List ℕ)) : Type 0 where
+  pub puts : Puts failed_before failed_now before now (join_with_byte 44 pieces)
   pub first : is_first ≡ is_nil pieces
 
-pub PutsPieces-none : (x : Bool) (a : Option (List ℕ)) (k : ℕ) → PutsPieces x x a a k k true []
-PutsPieces-none x a k = record { puts = Puts-nothing x a k; first = refl }
+pub PutsPieces-none : (x : Bool) (a : Telling) → PutsPieces x x a a true []
+PutsPieces-none x a = record { puts = Puts-nothing x a; first = refl }
 
-pub PutsPieces-push : {x y z : Bool} {a b c : Option (List ℕ)} {k l m : ℕ} {first : Bool} {pieces : List (List ℕ)} (piece : List ℕ) → PutsPieces x y a b k l first pieces → Puts y z b c l m (if first then piece else 44 ∷ piece)
-    → PutsPieces x z a c k m false (pieces ++ piece ∷ [])
+pub PutsPieces-push : {x y z : Bool} {a b c : Telling} {first : Bool} {pieces : List (List ℕ)} (piece : List ℕ) → PutsPieces x y a b first pieces → Puts y z b c (if first then piece else 44 ∷ piece)
+    → PutsPieces x z a c false (pieces ++ piece ∷ [])
 PutsPieces-push {pieces = pieces} piece p q = record {
   puts = Puts-as (sym (join-push pieces piece)) (Puts-then p.puts (rw p.first at q));
   first = sym (is_nil-push pieces piece);
 }
 
-pub PutsPieces-as : {x y : Bool} {a b : Option (List ℕ)} {k l : ℕ} {first : Bool} {pieces others : List (List ℕ)} → pieces ≡ others → PutsPieces x y a b k l first pieces → PutsPieces x y a b k l first others
-PutsPieces-as {x} {y} {a} {b} {k} {l} {first} e p = let P : List (List ℕ) → Type 0 = λ ps. PutsPieces x y a b k l first ps in subst P e p
+pub PutsPieces-as : {x y : Bool} {a b : Telling} {first : Bool} {pieces others : List (List ℕ)} → pieces ≡ others → PutsPieces x y a b first pieces → PutsPieces x y a b first others
+PutsPieces-as {x} {y} {a} {b} {first} e p = let P : List (List ℕ) → Type 0 = λ ps. PutsPieces x y a b first ps in subst P e p
 
 -- one name more, if it is chosen
 either : (b : Bool) (name : List ℕ) (L M Y : List (List ℕ)) → L ≡ M ++ Y → (if b then name ∷ L else L) ≡ (if b then name ∷ M else M) ++ Y
@@ -59,7 +60,7 @@ part_names-more E parts i p e =
     let size : i ≡ 0 + length (take i parts) = omega (arith, length-take-le i parts (omega arith)) in
     ap (λ t. part_names_in E 0 t) (take_more parts i p within ∙ ap (λ x. take i parts ++ x ∷ []) (get_or_from_slice_get parts i p p e)) ∙ part_names-push E 0 i (take i parts) p size
 
-pub cells-more : (s : Setup) (E : Set Place) (readings : List Fact) (i : ℕ) (f : Fact) → slice_get readings i ≡ Some f → cells_in s E (take (i + 1) readings) ≡ cells_in s E (take i readings) ++ (if E (AtCell f.cell) then cell_text s f.cell ∷ [] else [])
+pub cells-more : (s : PresentView) (E : Set Place) (readings : List Fact) (i : ℕ) (f : Fact) → slice_get readings i ≡ Some f → cells_in s E (take (i + 1) readings) ≡ cells_in s E (take i readings) ++ (if E (AtCell f.cell) then cell_text s f.cell ∷ [] else [])
 cells-more s E readings i f e =
     let within : i < length readings = slice_get_within readings i f e in
     ap (map (λ f. cell_text s f.cell)) (filter_more (λ f. E (AtCell f.cell)) readings i f within)
@@ -84,8 +85,8 @@ part_names-chosen E parts i p e h = sym (if_chosen (E (AtPart i)) _ _ p.name h (
 pub part_names-left : (E : Set Place) (parts : List Component) (i : ℕ) (p : Component) → slice_get parts i ≡ Some p → E (AtPart i) ≡ false → part_names_in E 0 (take i parts) ≡ part_names_in E 0 (take (i + 1) parts)
 part_names-left E parts i p e h = sym (if_left (E (AtPart i)) _ _ p.name h (part_names-more E parts i p e))
 
-pub cells-chosen : (s : Setup) (E : Set Place) (readings : List Fact) (i : ℕ) (f : Fact) → slice_get readings i ≡ Some f → E (AtCell f.cell) ≡ true → cells_in s E (take i readings) ++ cell_text s f.cell ∷ [] ≡ cells_in s E (take (i + 1) readings)
+pub cells-chosen : (s : PresentView) (E : Set Place) (readings : List Fact) (i : ℕ) (f : Fact) → slice_get readings i ≡ Some f → E (AtCell f.cell) ≡ true → cells_in s E (take i readings) ++ cell_text s f.cell ∷ [] ≡ cells_in s E (take (i + 1) readings)
 cells-chosen s E readings i f e h = sym (if_chosen (E (AtCell f.cell)) _ _ (cell_text s f.cell) h (cells-more s E readings i f e))
 
-pub cells-left : (s : Setup) (E : Set Place) (readings : List Fact) (i : ℕ) (f : Fact) → slice_get readings i ≡ Some f → E (AtCell f.cell) ≡ false → cells_in s E (take i readings) ≡ cells_in s E (take (i + 1) readings)
+pub cells-left : (s : PresentView) (E : Set Place) (readings : List Fact) (i : ℕ) (f : Fact) → slice_get readings i ≡ Some f → E (AtCell f.cell) ≡ false → cells_in s E (take i readings) ≡ cells_in s E (take (i + 1) readings)
 cells-left s E readings i f e h = sym (if_left (E (AtCell f.cell)) _ _ (cell_text s f.cell) h (cells-more s E readings i f e))

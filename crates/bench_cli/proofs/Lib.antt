@@ -3,6 +3,7 @@ pub mod Words
 pub mod Runs
 pub mod Sessions
 pub mod Running
+pub mod Refusing
 pub mod Serving
 pub mod Causes
 pub mod Nets

@@ -1,38 +1,15 @@
 -- Lines of bytes that are known in parts.
-use Rattle.std.proofs.Common.{◌≡◌, ◌≢◌, ℕ, ◌+◌, ◌-◌, ◌≤◌, ◌<◌, ◌==◌, Bool, true, false, List, [], ◌∷◌, ◌++◌, length, take, refl, sym, ◌∙◌, ap, append_assoc, arith, length-append, nat_lt}
+use Rattle.std.proofs.Common.{◌≡◌, ◌≢◌, ℕ, ◌+◌, ◌-◌, ◌≤◌, ◌<◌, Bool, true, false, List, [], ◌∷◌, ◌++◌, length, take, refl, sym, ◌∙◌, ap, append_assoc, arith, length-append, nat_lt}
 use Rattle.std.proofs.Math.Seq.{take-append-add}
-use Rattle.bench_io.specs.Lines.{MOST_BYTES, lines_of, whole_lines_of, session_lines, HasNoNewline}
+use Rattle.std.proofs.lemmas.Bool.{true≢false}
+use Rattle.std.proofs.lemmas.List.{append-nil}
+use Rattle.bench_io.specs.Lines.{lines_of, whole_lines_of, session_lines, HasNoNewline}
+use Rattle.bench_io.specs.declared.limits.TheConstants.{MOST_BYTES}
+use Rattle.bench_io.proofs.LineLaws.{lines_of-cut, lines_of-last, whole_lines_of-cut, whole_lines_of-rest}
 use Rattle.bench_cli.specs.Turns.{Cuts}
 
-pub append-nil : {A : Type 0} (xs : List A) → xs ++ [] ≡ xs
-append-nil [] = refl
-append-nil (x ∷ xs) = ap (λ t. x ∷ t) (append-nil xs)
-
-not_newline : (b : ℕ) → (b ≡ 10 → ⊥) → (b == 10) ≡ false
-not_newline b h = grind arith
-
-pub lines-cut : (t x : List ℕ) → HasNoNewline t → lines_of (t ++ 10 ∷ x) ≡ t ∷ lines_of x
-lines-cut [] x h = refl
-lines-cut (b ∷ t) x h = rw (not_newline b h.0, lines-cut t x h.1) refl
-
-pub whole-cut : (t x : List ℕ) → HasNoNewline t → whole_lines_of (t ++ 10 ∷ x) ≡ t ∷ whole_lines_of x
-whole-cut [] x h = refl
-whole-cut (b ∷ t) x h = rw (not_newline b h.0, whole-cut t x h.1) refl
-
-pub lines-rest : (t : List ℕ) → HasNoNewline t → t ≢ [] → lines_of t ≡ t ∷ []
-lines-rest [] h ne = absurd (ne refl)
-lines-rest (b ∷ []) h ne = rw (not_newline b h.0) refl
-lines-rest (b ∷ c ∷ t) h ne = rw (not_newline b h.0, lines-rest (c ∷ t) h.1 (λ e. cc)) refl
-
-pub whole-rest : (t : List ℕ) → HasNoNewline t → whole_lines_of t ≡ []
-whole-rest [] h = refl
-whole-rest (b ∷ t) h = rw (not_newline b h.0, whole-rest t h.1) refl
-
-true_false : true ≡ false → ⊥
-true_false e = cc
-
 pub Cuts-nothing : Cuts [] [] false
-Cuts-nothing = record { all = λ e x. refl; whole = λ e x. refl; at_end = λ e. absurd (true_false (sym e)) }
+Cuts-nothing = record { all = λ e x. refl; whole = λ e x. refl; at_end = λ e. absurd (true≢false (sym e)) }
 
 regroup : (a t x : List ℕ) → (a ++ (t ++ 10 ∷ [])) ++ x ≡ a ++ (t ++ 10 ∷ x)
 regroup a t x = append_assoc a (t ++ 10 ∷ []) x ∙ ap (λ u. a ++ u) (append_assoc t (10 ∷ []) x)
@@ -41,24 +18,24 @@ regroup a t x = append_assoc a (t ++ 10 ∷ []) x ∙ ap (λ u. a ++ u) (append_
 pub Cuts-more : (given : List ℕ) (lines : List (List ℕ)) (ended after : Bool) (t : List ℕ) → Cuts given lines ended → ended ≡ false → after ≡ false → HasNoNewline t
     → Cuts (given ++ (t ++ 10 ∷ [])) (lines ++ t ∷ []) after
 Cuts-more given lines ended after t c e f h = record {
-  all = λ _ x. ap lines_of (regroup given t x) ∙ (c.all e (t ++ 10 ∷ x) ∙ (ap (λ u. lines ++ u) (lines-cut t x h) ∙ sym (append_assoc lines (t ∷ []) (lines_of x))));
-  whole = λ _ x. ap whole_lines_of (regroup given t x) ∙ (c.whole e (t ++ 10 ∷ x) ∙ (ap (λ u. lines ++ u) (whole-cut t x h) ∙ sym (append_assoc lines (t ∷ []) (whole_lines_of x))));
-  at_end = λ g. absurd (true_false (sym g ∙ f));
+  all = λ _ x. ap lines_of (regroup given t x) ∙ (c.all e (t ++ 10 ∷ x) ∙ (ap (λ u. lines ++ u) (lines_of-cut t x h) ∙ sym (append_assoc lines (t ∷ []) (lines_of x))));
+  whole = λ _ x. ap whole_lines_of (regroup given t x) ∙ (c.whole e (t ++ 10 ∷ x) ∙ (ap (λ u. lines ++ u) (whole_lines_of-cut t x h) ∙ sym (append_assoc lines (t ∷ []) (whole_lines_of x))));
+  at_end = λ g. absurd (true≢false (sym g ∙ f));
 }
 
 -- the last line, which has none
 pub Cuts-last : (given : List ℕ) (lines : List (List ℕ)) (ended after : Bool) (t : List ℕ) → Cuts given lines ended → ended ≡ false → after ≡ true → HasNoNewline t → t ≢ []
     → Cuts (given ++ t) (lines ++ t ∷ []) after
 Cuts-last given lines ended after t c e f h ne = record {
-  all = λ g. absurd (true_false (sym f ∙ g));
-  whole = λ g. absurd (true_false (sym f ∙ g));
-  at_end = λ _. c.all e t ∙ ap (λ u. lines ++ u) (lines-rest t h ne);
+  all = λ g. absurd (true≢false (sym f ∙ g));
+  whole = λ g. absurd (true≢false (sym f ∙ g));
+  at_end = λ _. c.all e t ∙ ap (λ u. lines ++ u) (lines_of-last t h ne);
 }
 
 -- the lines before some bytes with no newline
 pub Cuts-whole : (given : List ℕ) (lines : List (List ℕ)) (ended : Bool) (t : List ℕ) → Cuts given lines ended → ended ≡ false → HasNoNewline t
     → whole_lines_of (given ++ t) ≡ lines
-Cuts-whole given lines ended t c e h = c.whole e t ∙ (ap (λ u. lines ++ u) (whole-rest t h) ∙ append-nil lines)
+Cuts-whole given lines ended t c e h = c.whole e t ∙ (ap (λ u. lines ++ u) (whole_lines_of-rest t h) ∙ append-nil lines)
 
 -- all the lines, at the end
 pub Cuts-all : (given : List ℕ) (lines : List (List ℕ)) (ended : Bool) → Cuts given lines ended → lines_of given ≡ lines

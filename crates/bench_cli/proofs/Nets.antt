@@ -1,7 +1,7 @@
 -- The nets with three names.
 use Rattle.std.proofs.Common.{◌≡◌, ℕ, zero, suc, ◌<◌, Bool, false, is_some, List, [], ◌∷◌, length, get_or, Some, None, refl, arith}
 use Rattle.std.specs.List.{All, list_all}
-use Rattle.circuit_model.specs.Present.{Setup, net_named}
+use Rattle.circuit_model.specs.Present.{PresentView, net_named}
 use Rattle.bench_cli.specs.Serving.{AreNets}
 
 pub three : {X : Type 0} (xs : List X) (a b z : X) → length xs ≡ 3 → a ≡ get_or xs 0 a → b ≡ get_or xs 1 b → z ≡ get_or xs 2 z → xs ≡ a ∷ b ∷ z ∷ []
@@ -11,7 +11,7 @@ three (x ∷ y ∷ []) a b z n p q r = absurd (omega arith)
 three (x ∷ y ∷ u ∷ []) a b z n p q r = rw (p, q, r) refl
 three (x ∷ y ∷ u ∷ v ∷ xs) a b z n p q r = absurd (omega arith)
 
-module _ (s : Setup) (a b z : List ℕ) where
+module _ (s : PresentView) (a b z : List ℕ) where
   abbrev known : List ℕ → Bool
   known name = is_some (net_named s name)
 

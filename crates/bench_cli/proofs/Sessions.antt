@@ -2,24 +2,27 @@
 use Rattle.std.proofs.Common.{◌≡◌, ◌≢◌, ◌⊎◌, ℕ, ◌+◌, ◌≤◌, ◌<◌, Bool, true, false, ◌||◌, List, [], ◌∷◌, ◌++◌, length, take, drop, Option, Some, None, Ok, Err, refl, sym, ◌∙◌, ap, subst, append_assoc, arith, inl, inr, length-append}
 use Rattle.std.specs.Io.KnownBytes.{Appends, Consumes, IsAtEnd}
 use Rattle.std.proofs.Math.Seq.{take-append_seam, drop-append_seam}
-use Rattle.bench_io.specs.Lines.{MOST_BYTES, HasNoNewline, lines_of, whole_lines_of, session_lines}
+use Rattle.std.proofs.lemmas.Bool.{true≢false}
+use Rattle.std.proofs.lemmas.List.{append-nil}
+use Rattle.bench_io.specs.Lines.{HasNoNewline, lines_of, whole_lines_of, session_lines}
+use Rattle.bench_io.specs.Streams.{Telling}
+use Rattle.bench_io.specs.declared.limits.TheConstants.{MOST_BYTES, BUFFER_ROOM}
 use Rattle.bench_io.specs.Reading.{Reading, lines_ahead}
+use Rattle.bench_io.proofs.LineLaws.{some_byte}
 use Rattle.bench_io.proofs.Bytes.{Consumes-then, Consumes-nothing, Appends-then}
 use Rattle.bench_cli.specs.Replies.{Exchange, Reply, text_of, transcript, lines_of_exchanges, has_refused, has_no_memory, is_refused, is_no_memory}
 use Rattle.bench_cli.specs.State.{State, empty}
 use Rattle.bench_cli.specs.Answers.{IsReply}
-use Rattle.bench_cli.specs.Turns.{Steps, ReadSofar, Cuts, ending_of, tally_after}
+use Rattle.bench_cli.specs.Turns.{Steps, ReadSofar, Cuts, CountsEnding, status_at, tally_after}
 use Rattle.bench_cli.specs.Session.{ReadsAll, ReadsTo, ReadsMost, ReadsSome, WhereTold, AnswersAll, Outcome, WritesPart}
 use Rattle.bench_cli.specs.Statuses.{status_by}
+use Rattle.bench_cli.specs.declared.Status.TheVariants.{ReadFault}
 use Rattle.bench_cli.specs.declared.session.Tally.{Tally}
-use Rattle.bench_cli.specs.declared.session.Stop.{Stop}
-use Rattle.bench_cli.specs.declared.session.Stop.TheVariants as stop
+use Rattle.bench_cli.specs.declared.session.Ending.{Ending}
+use Rattle.bench_cli.specs.declared.session.Ending.TheVariants as ending
 use Rattle.bench_cli.specs.declared.replies.Answer.{Answer}
-use Rattle.bench_cli.proofs.Lines.{append-nil, Cuts-more, Cuts-last, Cuts-nothing, Cuts-whole, Cuts-all, Cuts-session}
+use Rattle.bench_cli.proofs.Lines.{Cuts-more, Cuts-last, Cuts-nothing, Cuts-whole, Cuts-all, Cuts-session}
 use Rattle.bench_cli.proofs.Runs.{Run-more, transcript-more, lines-more, refused-more, no_memory-more}
-
-true_false : true ≡ false → ⊥
-true_false e = cc
 
 -- where the bytes that were given and held, and those that were read, are these parts
 parts-newline : (given held read t after : List ℕ) → held ++ read ≡ t ++ 10 ∷ after → (given ++ held) ++ read ≡ (given ++ (t ++ 10 ∷ [])) ++ after
@@ -29,20 +32,16 @@ parts-newline given held read t after e = append_assoc given held read ∙ (ap (
 parts-end : (given held read t after : List ℕ) → held ++ read ≡ t → after ≡ [] → (given ++ held) ++ read ≡ (given ++ t) ++ after
 parts-end given held read t after e z = append_assoc given held read ∙ (ap (λ u. given ++ u) e ∙ rw z (sym (append-nil (given ++ t))))
 
-some_bytes : (t : List ℕ) → t ≢ [] → 0 < length t
-some_bytes [] ne = absurd (ne refl)
-some_bytes (b ∷ t) ne = omega arith
-
-stepped-by : (es : List Exchange) (l₀ l₁ l₂ : Option (List ℕ)) (f₀ f₁ f₂ : ℕ) (r r' : Reading) (s s' : State) (answer : Answer) (reply : Reply)
-    (p : ReadSofar es l₀ l₁ f₀ f₁ r s) (q : Steps r r' s s' l₁ l₂ f₁ f₂ (Ok answer)) → IsReply s' answer reply
+stepped-by : (es : List Exchange) (t₀ t₁ t₂ : Telling) (r r' : Reading) (s s' : State) (answer : Answer) (reply : Reply)
+    (p : ReadSofar es t₀ t₁ r s) (q : Steps r r' s s' t₁ t₂ (Ok answer)) → IsReply s' answer reply
     → ((r.held ++ q.read ≡ q.answer.1.line ++ 10 ∷ r'.held) × (r'.has_ended ≡ false))
-    ⊎ ((r.held ++ q.read ≡ q.answer.1.line) × (q.answer.1.line ≢ []) × (r'.held ≡ []) × (r'.has_ended ≡ true) × IsAtEnd l₂)
-    → (n : ReadSofar (es ++ record { line = q.answer.1.line; reply = reply } ∷ []) l₀ l₂ f₀ f₂ r' s') × (length p.given < length n.given)
-stepped-by es l₀ l₁ l₂ f₀ f₁ f₂ r r' s s' answer reply p q is (inl k) =
+    ⊎ ((r.held ++ q.read ≡ q.answer.1.line) × (q.answer.1.line ≢ []) × (r'.held ≡ []) × (r'.has_ended ≡ true) × IsAtEnd t₂.bytes)
+    → (n : ReadSofar (es ++ record { line = q.answer.1.line; reply = reply } ∷ []) t₀ t₂ r' s') × (length p.given < length n.given)
+stepped-by es t₀ t₁ t₂ r r' s s' answer reply p q is (inl k) =
     let line = q.answer.1.line in
     let last : Exchange = record { line = line; reply = reply } in
     let e = parts-newline p.given r.held q.read line r'.held k.0 in
-    let P : List ℕ → Type 0 = λ u. Consumes l₀ l₂ u in
+    let P : List ℕ → Type 0 = λ u. Consumes t₀.bytes t₂.bytes u in
     let Q : List (List ℕ) → Type 0 = λ u. Cuts (p.given ++ (line ++ 10 ∷ [])) u r'.has_ended in (
       record {
         run = Run-more _ _ _ es last p.run (q.answer.1.takes reply is);
@@ -52,16 +51,17 @@ stepped-by es l₀ l₁ l₂ f₀ f₁ f₂ r r' s s' answer reply p q is (inl k
         taken = q.taken ∙ (ap (λ m. m + length q.read) p.taken ∙ (sym (length-append (p.given ++ r.held) q.read) ∙ ap length e));
         within = q.answer.1.begins.within;
         goes_on = q.answer.1.begins.goes_on;
-        ended = λ g. absurd (true_false (sym g ∙ k.1));
-        later = omega (arith, p.later, q.later);
+        room = q.room;
+        ended = λ g. absurd (true≢false (sym g ∙ k.1));
+        kept = q.cause ∙ p.kept;
       },
       omega (arith, length-append p.given (line ++ 10 ∷ []), length-append line (10 ∷ [])),
     )
-stepped-by es l₀ l₁ l₂ f₀ f₁ f₂ r r' s s' answer reply p q is (inr k) =
+stepped-by es t₀ t₁ t₂ r r' s s' answer reply p q is (inr k) =
     let line = q.answer.1.line in
     let last : Exchange = record { line = line; reply = reply } in
     let e = parts-end p.given r.held q.read line r'.held k.0 k.2 in
-    let P : List ℕ → Type 0 = λ u. Consumes l₀ l₂ u in
+    let P : List ℕ → Type 0 = λ u. Consumes t₀.bytes t₂.bytes u in
     let Q : List (List ℕ) → Type 0 = λ u. Cuts (p.given ++ line) u r'.has_ended in (
       record {
         run = Run-more _ _ _ es last p.run (q.answer.1.takes reply is);
@@ -71,22 +71,23 @@ stepped-by es l₀ l₁ l₂ f₀ f₁ f₂ r r' s s' answer reply p q is (inr k
         taken = q.taken ∙ (ap (λ m. m + length q.read) p.taken ∙ (sym (length-append (p.given ++ r.held) q.read) ∙ ap length e));
         within = q.answer.1.begins.within;
         goes_on = q.answer.1.begins.goes_on;
+        room = q.room;
         ended = λ g. (k.2, k.4);
-        later = omega (arith, p.later, q.later);
+        kept = q.cause ∙ p.kept;
       },
-      omega (arith, length-append p.given line, some_bytes line k.1),
+      omega (arith, length-append p.given line, some_byte line k.1),
     )
 
 -- a line was read and answered
-pub stepped : (es : List Exchange) (l₀ l₁ l₂ : Option (List ℕ)) (f₀ f₁ f₂ : ℕ) (r r' : Reading) (s s' : State) (answer : Answer) (reply : Reply)
-    (p : ReadSofar es l₀ l₁ f₀ f₁ r s) (q : Steps r r' s s' l₁ l₂ f₁ f₂ (Ok answer)) → IsReply s' answer reply
-    → (n : ReadSofar (es ++ record { line = q.answer.1.line; reply = reply } ∷ []) l₀ l₂ f₀ f₂ r' s') × (length p.given < length n.given)
-stepped es l₀ l₁ l₂ f₀ f₁ f₂ r r' s s' answer reply p q is = stepped-by es l₀ l₁ l₂ f₀ f₁ f₂ r r' s s' answer reply p q is q.answer.1.begins.cut
+pub stepped : (es : List Exchange) (t₀ t₁ t₂ : Telling) (r r' : Reading) (s s' : State) (answer : Answer) (reply : Reply)
+    (p : ReadSofar es t₀ t₁ r s) (q : Steps r r' s s' t₁ t₂ (Ok answer)) → IsReply s' answer reply
+    → (n : ReadSofar (es ++ record { line = q.answer.1.line; reply = reply } ∷ []) t₀ t₂ r' s') × (length p.given < length n.given)
+stepped es t₀ t₁ t₂ r r' s s' answer reply p q is = stepped-by es t₀ t₁ t₂ r r' s s' answer reply p q is q.answer.1.begins.cut
 
 -- the measure falls with each line
-pub ahead_falls : (es es' : List Exchange) (l₀ l₁ l₂ : Option (List ℕ)) (f₀ f₁ f₂ : ℕ) (r r' : Reading) (s s' : State)
-    (p : ReadSofar es l₀ l₁ f₀ f₁ r s) (n : ReadSofar es' l₀ l₂ f₀ f₂ r' s') → length p.given < length n.given → lines_ahead r' < lines_ahead r
-ahead_falls es es' l₀ l₁ l₂ f₀ f₁ f₂ r r' s s' p n h =
+pub ahead_falls : (es es' : List Exchange) (t₀ t₁ t₂ : Telling) (r r' : Reading) (s s' : State)
+    (p : ReadSofar es t₀ t₁ r s) (n : ReadSofar es' t₀ t₂ r' s') → length p.given < length n.given → lines_ahead r' < lines_ahead r
+ahead_falls es es' t₀ t₁ t₂ r r' s s' p n h =
     omega (arith, p.taken, n.taken, p.within, n.within, length-append p.given r.held, length-append n.given r'.held)
 
 nothing_more : (held left : List ℕ) → (held ≡ []) × (left ≡ []) → held ++ left ≡ []
@@ -130,68 +131,79 @@ told_most es (Some input) (Some left) given front last ended c e h k size =
       rest = sym (ap (λ t. drop (MOST_BYTES + 1) t) split' ∙ (ap (λ m. drop m (((given ++ front) ++ last ∷ []) ++ left)) (sym n') ∙ drop-append_seam ((given ++ front) ++ last ∷ []) left));
     }
 
--- the lines so far are the first ones, whatever comes
-pub reads_some : (es : List Exchange) (l₀ l₁ : Option (List ℕ)) (f₀ f₁ : ℕ) (r : Reading) (s : State) → ReadSofar es l₀ l₁ f₀ f₁ r s
+told_some : (es : List Exchange) (l₀ l₁ : Option (List ℕ)) (given held : List ℕ) (ended : Bool) → Cuts given (lines_of_exchanges es) ended
+    → Consumes l₀ l₁ (given ++ held) → length (given ++ held) ≤ MOST_BYTES → length held ≤ BUFFER_ROOM → (ended ≡ true → (held ≡ []) × IsAtEnd l₁)
     → WhereTold l₀ l₁ (ReadsSome (lines_of_exchanges es))
-reads_some es None l₁ f₀ f₁ r s p = tt
-reads_some es (Some input) None f₀ f₁ r s p = absurd p.consumed
-reads_some es (Some input) (Some left) f₀ f₁ r s p =
-    let short : length p.given ≤ MOST_BYTES = omega (arith, p.taken, p.within, length-append p.given r.held) in
-    let split : input ≡ p.given ++ (r.held ++ left) = p.consumed ∙ append_assoc p.given r.held left in
-    let first = Cuts-session p.given (r.held ++ left) _ r.has_ended p.cuts short (λ e. nothing_more r.held left (p.ended e)) in
+told_some es None l₁ given held ended c k fits near at_end = tt
+told_some es (Some input) None given held ended c k fits near at_end = absurd k
+told_some es (Some input) (Some left) given held ended c k fits near at_end =
+    let split : input ≡ given ++ (held ++ left) = k ∙ append_assoc given held left in
+    let first = Cuts-session given (held ++ left) _ ended c (omega (arith, fits, length-append given held)) (λ e. nothing_more held left (at_end e)) in
     record {
-      read = p.given;
-      ahead = r.held;
+      read = given;
+      ahead = held;
       split = split;
-      fits = omega (arith, p.taken, p.within);
-      each = sym (Cuts-all p.given _ r.has_ended p.cuts);
+      fits = fits;
+      near = near;
+      each = sym (Cuts-all given _ ended c);
       after = first.0;
       first = ap session_lines split ∙ first.1;
     }
 
--- the end was met
-pub reads_all : (es : List Exchange) (l₀ l₁ l₂ : Option (List ℕ)) (f₀ f₁ f₂ : ℕ) (r r' : Reading) (s s' : State)
-    → ReadSofar es l₀ l₁ f₀ f₁ r s → Steps r r' s s' l₁ l₂ f₁ f₂ (Err stop.End) → WhereTold l₀ l₂ (ReadsAll (lines_of_exchanges es))
-reads_all es None l₁ l₂ f₀ f₁ f₂ r r' s s' p q = tt
-reads_all es (Some input) None l₂ f₀ f₁ f₂ r r' s s' p q = absurd p.consumed
-reads_all es (Some input) (Some left) None f₀ f₁ f₂ r r' s s' p q = absurd q.consumed
-reads_all es (Some input) (Some left) (Some rest) f₀ f₁ f₂ r r' s s' p q =
-    let none = no_parts r.held q.read q.answer.0 in
-    let same : left ≡ rest = q.consumed ∙ ap (λ t. t ++ rest) none.1 in
-    let end : rest ≡ [] = at_end r.has_ended left rest same (λ e. (p.ended e).1) q.answer.1 in
-    let all : input ≡ p.given = p.consumed ∙ rw (none.0, same, end) (append-nil (p.given ++ []) ∙ append-nil p.given) in
+-- the lines so far are the first ones, whatever comes
+pub reads_some : (es : List Exchange) (t₀ t₁ : Telling) (r : Reading) (s : State) → ReadSofar es t₀ t₁ r s → WhereTold t₀.bytes t₁.bytes (ReadsSome (lines_of_exchanges es))
+reads_some es t₀ t₁ r s p = told_some es t₀.bytes t₁.bytes p.given r.held r.has_ended p.cuts p.consumed (omega (arith, p.taken, p.within)) p.room p.ended
+
+told_all : (es : List Exchange) (l₀ l₁ l₂ : Option (List ℕ)) (given held read : List ℕ) (ended : Bool) → Cuts given (lines_of_exchanges es) ended
+    → Consumes l₀ l₁ (given ++ held) → length (given ++ held) ≤ MOST_BYTES → (ended ≡ true → (held ≡ []) × IsAtEnd l₁)
+    → Consumes l₁ l₂ read → held ++ read ≡ [] → (ended ≡ true) ⊎ IsAtEnd l₂ → WhereTold l₀ l₂ (ReadsAll (lines_of_exchanges es))
+told_all es None l₁ l₂ given held read ended c k fits was taken none now = tt
+told_all es (Some input) None l₂ given held read ended c k fits was taken none now = absurd k
+told_all es (Some input) (Some left) None given held read ended c k fits was taken none now = absurd taken
+told_all es (Some input) (Some left) (Some rest) given held read ended c k fits was taken none now =
+    let parts = no_parts held read none in
+    let same : left ≡ rest = taken ∙ ap (λ t. t ++ rest) parts.1 in
+    let end : rest ≡ [] = at_end ended left rest same (λ e. (was e).1) now in
+    let all : input ≡ given = k ∙ rw (parts.0, same, end) (append-nil (given ++ []) ∙ append-nil given) in
     record {
-      fits = omega (arith, p.taken, p.within, length-append p.given r.held, ap length all);
-      each = sym (Cuts-all p.given _ r.has_ended p.cuts) ∙ ap lines_of (sym all);
+      fits = omega (arith, fits, length-append given held, ap length all);
+      each = sym (Cuts-all given _ ended c) ∙ ap lines_of (sym all);
       end = end;
     }
 
+-- the end was met
+pub reads_all : (es : List Exchange) (t₀ t₁ t₂ : Telling) (r r' : Reading) (s s' : State)
+    → ReadSofar es t₀ t₁ r s → Steps r r' s s' t₁ t₂ (Err ending.End) → WhereTold t₀.bytes t₂.bytes (ReadsAll (lines_of_exchanges es))
+reads_all es t₀ t₁ t₂ r r' s s' p q =
+    told_all es t₀.bytes t₁.bytes t₂.bytes p.given r.held q.read r.has_ended p.cuts p.consumed (omega (arith, p.taken, p.within)) p.ended q.consumed q.answer.0 q.answer.1
+
 -- a read failed
-pub reads_to : (es : List Exchange) (l₀ l₁ l₂ : Option (List ℕ)) (f₀ f₁ f₂ : ℕ) (r r' : Reading) (s s' : State)
-    → ReadSofar es l₀ l₁ f₀ f₁ r s → Steps r r' s s' l₁ l₂ f₁ f₂ (Err stop.Failed) → WhereTold l₀ l₂ (ReadsTo (lines_of_exchanges es))
-reads_to es l₀ l₁ l₂ f₀ f₁ f₂ r r' s s' p q = told_to es l₀ l₂ p.given (r.held ++ q.read) r.has_ended p.cuts q.answer.0 q.answer.1
-    (let P : List ℕ → Type 0 = λ u. Consumes l₀ l₂ u in subst P (append_assoc p.given r.held q.read) (Consumes-then _ _ _ _ _ p.consumed q.consumed))
-    (omega (arith, p.taken, q.taken, q.answer.3, length-append p.given r.held, length-append r.held q.read, length-append p.given (r.held ++ q.read)))
+pub reads_to : (es : List Exchange) (t₀ t₁ t₂ : Telling) (r r' : Reading) (s s' : State)
+    → ReadSofar es t₀ t₁ r s → Steps r r' s s' t₁ t₂ (Err ending.Failed) → WhereTold t₀.bytes t₂.bytes (ReadsTo (lines_of_exchanges es))
+reads_to es t₀ t₁ t₂ r r' s s' p q = told_to es t₀.bytes t₂.bytes p.given (r.held ++ q.read) r.has_ended p.cuts q.answer.0 q.answer.1
+    (let P : List ℕ → Type 0 = λ u. Consumes t₀.bytes t₂.bytes u in subst P (append_assoc p.given r.held q.read) (Consumes-then _ _ _ _ _ p.consumed q.consumed))
+    (omega (arith, p.taken, q.taken, q.answer.2, length-append p.given r.held, length-append r.held q.read, length-append p.given (r.held ++ q.read)))
 
 -- too much came
-pub reads_most : (es : List Exchange) (l₀ l₁ l₂ : Option (List ℕ)) (f₀ f₁ f₂ : ℕ) (r r' : Reading) (s s' : State)
-    → ReadSofar es l₀ l₁ f₀ f₁ r s → Steps r r' s s' l₁ l₂ f₁ f₂ (Err stop.TooMuch) → WhereTold l₀ l₂ (ReadsMost (lines_of_exchanges es))
-reads_most es l₀ l₁ l₂ f₀ f₁ f₂ r r' s s' p q = told_most es l₀ l₂ p.given q.answer.1 q.answer.2 r.has_ended p.cuts q.answer.0 q.answer.4
-    (let P : List ℕ → Type 0 = λ u. Consumes l₀ l₂ u in subst P (append_assoc p.given r.held q.read ∙ ap (λ u. p.given ++ u) q.answer.3) (Consumes-then _ _ _ _ _ p.consumed q.consumed))
+pub reads_most : (es : List Exchange) (t₀ t₁ t₂ : Telling) (r r' : Reading) (s s' : State)
+    → ReadSofar es t₀ t₁ r s → Steps r r' s s' t₁ t₂ (Err ending.TooMuch) → WhereTold t₀.bytes t₂.bytes (ReadsMost (lines_of_exchanges es))
+reads_most es t₀ t₁ t₂ r r' s s' p q = told_most es t₀.bytes t₂.bytes p.given q.answer.1 q.answer.2 r.has_ended p.cuts q.answer.0 q.answer.4
+    (let P : List ℕ → Type 0 = λ u. Consumes t₀.bytes t₂.bytes u in subst P (append_assoc p.given r.held q.read ∙ ap (λ u. p.given ++ u) q.answer.3) (Consumes-then _ _ _ _ _ p.consumed q.consumed))
     (omega (arith, p.taken, q.taken, q.answer.5, length-append p.given r.held, length-append r.held q.read, ap length q.answer.3, length-append q.answer.1 (q.answer.2 ∷ [])))
 
 -- nothing was read yet
-pub begun : (l : Option (List ℕ)) (f : ℕ) (r : Reading) → r.held ≡ [] → r.taken ≡ 0 → r.has_ended ≡ false → r.is_over ≡ false → ReadSofar [] l l f f r empty
-begun l f r held taken ended over = record {
+pub begun : (t : Telling) (r : Reading) → r.held ≡ [] → r.taken ≡ 0 → r.has_ended ≡ false → r.is_over ≡ false → ReadSofar [] t t r empty
+begun t r held taken ended over = record {
   run = refl;
   given = [];
-  consumed = let P : List ℕ → Type 0 = λ u. Consumes l l u in subst P (sym held) (Consumes-nothing l);
+  consumed = let P : List ℕ → Type 0 = λ u. Consumes t.bytes t.bytes u in subst P (sym held) (Consumes-nothing t.bytes);
   cuts = let P : Bool → Type 0 = λ b. Cuts [] [] b in subst P (sym ended) Cuts-nothing;
   taken = taken ∙ ap length (sym held);
   within = omega (arith, taken);
   goes_on = over;
-  ended = λ e. absurd (true_false (sym e ∙ ended));
-  later = omega arith;
+  room = omega (arith, ap length held);
+  ended = λ e. absurd (true≢false (sym e ∙ ended));
+  kept = refl;
 }
 
 all_answered : (no_memory refused : Bool) (es : List Exchange) (l₀ l₂ h₀ h₁ : Option (List ℕ)) → no_memory ≡ has_no_memory es → refused ≡ has_refused es
@@ -206,13 +218,13 @@ outcome_at_end false true es l₀ l₂ h₀ h₁ k = k
 outcome_at_end false false es l₀ l₂ h₀ h₁ k = k
 
 -- how a session ends that stops
-pub outcome_of : (stop : Stop) (t : Tally) (es : List Exchange) (l₀ l₁ l₂ h₀ h₁ : Option (List ℕ)) (f₀ f₁ f₂ : ℕ) (r r' : Reading) (s s' : State)
-    → ReadSofar es l₀ l₁ f₀ f₁ r s → Appends h₀ h₁ (transcript es) → t.refused ≡ has_refused es → t.no_memory ≡ has_no_memory es
-    → Steps r r' s s' l₁ l₂ f₁ f₂ (Err stop) → Outcome (ending_of stop t) es l₀ l₂ h₀ h₁
-outcome_of stop.End t es l₀ l₁ l₂ h₀ h₁ f₀ f₁ f₂ r r' s s' p w a b q =
-    outcome_at_end t.no_memory t.refused es l₀ l₂ h₀ h₁ (all_answered t.no_memory t.refused es l₀ l₂ h₀ h₁ b a (reads_all es l₀ l₁ l₂ f₀ f₁ f₂ r r' s s' p q) w)
-outcome_of stop.Failed t es l₀ l₁ l₂ h₀ h₁ f₀ f₁ f₂ r r' s s' p w a b q = (reads_to es l₀ l₁ l₂ f₀ f₁ f₂ r r' s s' p q, w)
-outcome_of stop.TooMuch t es l₀ l₁ l₂ h₀ h₁ f₀ f₁ f₂ r r' s s' p w a b q = (reads_most es l₀ l₁ l₂ f₀ f₁ f₂ r r' s s' p q, w)
+pub outcome_of : (why : Ending) (t : Tally) (es : List Exchange) (t₀ t₁ t₂ : Telling) (h₀ h₁ : Option (List ℕ)) (r r' : Reading) (s s' : State)
+    → ReadSofar es t₀ t₁ r s → Appends h₀ h₁ (transcript es) → t.refused ≡ has_refused es → t.no_memory ≡ has_no_memory es
+    → Steps r r' s s' t₁ t₂ (Err why) → Outcome (status_at why t) es t₀.bytes t₂.bytes h₀ h₁
+outcome_of ending.End t es t₀ t₁ t₂ h₀ h₁ r r' s s' p w a b q =
+    outcome_at_end t.no_memory t.refused es _ _ h₀ h₁ (all_answered t.no_memory t.refused es _ _ h₀ h₁ b a (reads_all es t₀ t₁ t₂ r r' s s' p q) w)
+outcome_of ending.Failed t es t₀ t₁ t₂ h₀ h₁ r r' s s' p w a b q = (reads_to es t₀ t₁ t₂ r r' s s' p q, w)
+outcome_of ending.TooMuch t es t₀ t₁ t₂ h₀ h₁ r r' s s' p w a b q = (reads_most es t₀ t₁ t₂ r r' s s' p q, w)
 
 -- the reply to the last line was written in part
 pub writes_part : (es : List Exchange) (last : Exchange) (h₀ h₁ h₂ : Option (List ℕ)) → Appends h₀ h₁ (transcript es)
@@ -237,3 +249,9 @@ noted_refused t t' es last e h = ap (λ u. u.refused) e ∙ (ap (λ b. b || is_r
 
 pub noted_no_memory : (t t' : Tally) (es : List Exchange) (last : Exchange) → t' ≡ tally_after t last.reply → t.no_memory ≡ has_no_memory es → t'.no_memory ≡ has_no_memory (es ++ last ∷ [])
 noted_no_memory t t' es last e h = ap (λ u. u.no_memory) e ∙ (ap (λ b. b || is_no_memory last.reply) h ∙ sym (no_memory-more es last))
+
+-- a session that ends without a failed read keeps the count
+pub failed_read : (why : Ending) (t : Tally) (a b c : ℕ) → b ≡ a → CountsEnding b c (Err why) → a < c → status_at why t ≡ ReadFault
+failed_read ending.End t a b c kept cause more = absurd (omega arith)
+failed_read ending.Failed t a b c kept cause more = refl
+failed_read ending.TooMuch t a b c kept cause more = absurd (omega arith)

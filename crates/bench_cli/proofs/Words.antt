@@ -1,12 +1,10 @@
 -- Words and numbers of a line.
 use Rattle.std.proofs.Common.{◌≡◌, ℕ, ◌+◌, ◌-◌, ◌*◌, ◌^◌, ◌≤◌, ◌<◌, true, false, List, [], ◌∷◌, ◌++◌, length, take, get_or, refl, sym, ◌∙◌, ap, arith, add-one}
+use Rattle.std.proofs.lemmas.Bool.{true≢false}
 use Rattle.std.proofs.lemmas.List.{take_more}
 use Rattle.std.proofs.Math.Nat.{pow-succ'}
 use Rattle.bench_cli.specs.Grammar.{words_of, pieces_of, without_empty, is_blank, number_after}
 use Rattle.bench_cli.specs.Reading.{AreBlanks, HasNoBlank, BeginsBlank, BeginsWord}
-
-pub true_false : true ≡ false → ⊥
-true_false e = cc
 
 AreBlanks-append : (xs ys : List ℕ) → AreBlanks xs → AreBlanks ys → AreBlanks (xs ++ ys)
 AreBlanks-append [] ys p q = q
@@ -50,7 +48,7 @@ word_then (x ∷ w) rest h some g = ap without_empty (pieces_front (x ∷ w) res
 
 pub no_word : (front : List ℕ) → BeginsWord front → BeginsBlank front → words_of front ≡ []
 no_word [] p q = refl
-no_word (b ∷ front) p q = absurd (true_false (sym q ∙ p))
+no_word (b ∷ front) p q = absurd (true≢false (sym q ∙ p))
 
 number-append : (n b : ℕ) (xs : List ℕ) → number_after n (xs ++ b ∷ []) ≡ 10 * number_after n xs + (b - 48)
 number-append n b [] = refl

@@ -1,6 +1,6 @@
 -- When each status comes.
 use Rattle.std.specs.Prelude.{◌≡◌, ◌⊎◌, ℕ, ◌+◌, ◌<◌, ◌≤◌, List, length, Option, Some, None}
-use Rattle.bench_io.specs.Lines.{MOST_BYTES}
+use Rattle.bench_io.specs.declared.limits.TheConstants.{MOST_BYTES}
 use Rattle.bench_cli.specs.declared.Status.{Status}
 use Rattle.bench_cli.specs.declared.Status.TheVariants.{Done, SomeRefused, NoMemory}
 

@@ -1,22 +1,19 @@
 -- How a line is read.
 use Rattle.std.specs.Prelude.{◌≡◌, ◌⊎◌, ℕ, ◌+◌, ◌-◌, ◌*◌, ◌==◌, ◌≤◌, ◌<◌, Bool, ◌||◌, if◌then◌else◌, List, [], ◌∷◌, codes, length, take}
 use Rattle.std.specs.List.{All}
-use Rattle.bench_io.specs.Lines.{LONGEST}
+use Rattle.bench_io.specs.Lines.{onto_first}
+use Rattle.bench_io.specs.declared.limits.TheConstants.{LONGEST_LINE}
 
 -- a tab, a carriage return and a space separate words
 abbrev pub is_blank : ℕ → Bool
 is_blank b = (b == 32) || (b == 9) || (b == 13)
 
--- b begins the first of the pieces
-abbrev pub onto_piece : ℕ → List (List ℕ) → List (List ℕ)
-onto_piece b [] = (b ∷ []) ∷ []
-onto_piece b (piece ∷ pieces) = (b ∷ piece) ∷ pieces
-
 -- the bytes between blanks, empty ones too
 abbrev pub pieces_of : List ℕ → List (List ℕ)
 pieces_of [] = [] ∷ []
-pieces_of (b ∷ bytes) = if is_blank b then [] ∷ pieces_of bytes else onto_piece b (pieces_of bytes)
+pieces_of (b ∷ bytes) = if is_blank b then [] ∷ pieces_of bytes else onto_first b (pieces_of bytes)
 
+-- the pieces that are not empty
 abbrev pub without_empty : List (List ℕ) → List (List ℕ)
 without_empty [] = []
 without_empty ([] ∷ pieces) = without_empty pieces
@@ -32,7 +29,7 @@ IsPrintable b = (b ≡ 9) ⊎ (b ≡ 13) ⊎ ((32 ≤ b) × (b ≤ 126))
 
 -- a line that is not too long and has no other byte
 pub record IsReadable (line : List ℕ) : Type 0 where
-  pub short : length line ≤ LONGEST
+  pub short : length line ≤ LONGEST_LINE
   pub printable : All IsPrintable line
 
 -- a line with these words asks for nothing: it has no word, or is a comment
@@ -40,10 +37,7 @@ abbrev pub IsSilent : List (List ℕ) → Type 0
 IsSilent [] = Unit {0}
 IsSilent (word ∷ words) = take 1 word ≡ codes "#"
 
--- a line that has no reply
-abbrev pub HasNoReply : List ℕ → Type 0
-HasNoReply line = IsReadable line × IsSilent (words_of line)
-
+-- the byte is a decimal digit
 abbrev pub IsDigit : ℕ → Type 0
 IsDigit b = (48 ≤ b) × (b ≤ 57)
 

@@ -7,9 +7,12 @@ pub mod Replies
 pub mod Answers
 pub mod Texts
 pub mod Labels
+pub mod Presents
+pub mod Checks
 pub mod State
 pub mod Serving
 pub mod Session
+pub mod Program
 pub mod Causes
 pub mod Puts
 pub mod Turns

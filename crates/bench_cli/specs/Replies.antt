@@ -1,28 +1,52 @@
 -- What lines are answered.
 use Rattle.std.specs.Prelude.{ℕ, Bool, true, false, ◌||◌, List, [], ◌∷◌, ◌++◌, codes, decimal}
 use Rattle.bench_cli.specs.declared.replies.Refusal.{Refusal}
-use Rattle.bench_cli.specs.declared.replies.Refusal.TheVariants.{NotBuilt}
+use Rattle.bench_cli.specs.declared.replies.Refusal.TheVariants.{NameTaken, UnknownNet, BadWidth, WidthsDisagree, BadCycle, ValueDoesNotFit, NetsFull, ComponentsFull, CellsFull, MeasurementsFull, AlreadyMeasured, NotBuilt}
 
 -- the reply to a line: text, a refusal, or the refusal for want of memory
 pub data Reply : Type 0 where
-  Told : List ℕ → Reply
+  Text : List ℕ → Reply
   Refused : Refusal → Reply
   NoMemory : Reply
 
+-- the number of a refusal
 abbrev pub number_of : Refusal → ℕ
+number_of NameTaken = 20
+number_of UnknownNet = 21
+number_of BadWidth = 22
+number_of WidthsDisagree = 23
+number_of BadCycle = 24
+number_of ValueDoesNotFit = 25
+number_of NetsFull = 30
+number_of ComponentsFull = 31
+number_of CellsFull = 32
+number_of MeasurementsFull = 33
+number_of AlreadyMeasured = 40
 number_of NotBuilt = 50
 
-abbrev pub words_of_refusal : Refusal → List ℕ
-words_of_refusal NotBuilt = codes "not built"
+-- its text
+abbrev pub text_of_refusal : Refusal → List ℕ
+text_of_refusal NameTaken = codes "name taken"
+text_of_refusal UnknownNet = codes "unknown net"
+text_of_refusal BadWidth = codes "bad width"
+text_of_refusal WidthsDisagree = codes "widths disagree"
+text_of_refusal BadCycle = codes "bad cycle"
+text_of_refusal ValueDoesNotFit = codes "value does not fit"
+text_of_refusal NetsFull = codes "nets full"
+text_of_refusal ComponentsFull = codes "components full"
+text_of_refusal CellsFull = codes "cells full"
+text_of_refusal MeasurementsFull = codes "measurements full"
+text_of_refusal AlreadyMeasured = codes "already measured"
+text_of_refusal NotBuilt = codes "not built"
 
--- the line of a refusal with this number and these words
+-- the line of a refusal with this number and this text
 abbrev pub refusal_line : ℕ → List ℕ → List ℕ
-refusal_line number words = codes "no " ++ decimal number ++ codes " " ++ words ++ codes "\n"
+refusal_line number text = codes "no " ++ decimal number ++ codes " " ++ text ++ codes "\n"
 
 -- the bytes of a reply
 abbrev pub text_of : Reply → List ℕ
-text_of (Told text) = text
-text_of (Refused refusal) = refusal_line (number_of refusal) (words_of_refusal refusal)
+text_of (Text text) = text
+text_of (Refused refusal) = refusal_line (number_of refusal) (text_of_refusal refusal)
 text_of NoMemory = refusal_line 90 (codes "no memory")
 
 -- a line and its reply
@@ -30,6 +54,7 @@ pub record Exchange : Type 0 where
   pub line : List ℕ
   pub reply : Reply
 
+-- the lines, one after another
 abbrev pub lines_of_exchanges : List Exchange → List (List ℕ)
 lines_of_exchanges [] = []
 lines_of_exchanges (e ∷ es) = e.line ∷ lines_of_exchanges es
@@ -39,13 +64,15 @@ abbrev pub transcript : List Exchange → List ℕ
 transcript [] = []
 transcript (e ∷ es) = text_of e.reply ++ transcript es
 
+-- a refusal other than that for want of memory
 abbrev pub is_refused : Reply → Bool
-is_refused (Told text) = false
+is_refused (Text text) = false
 is_refused (Refused refusal) = true
 is_refused NoMemory = false
 
+-- the refusal for want of memory
 abbrev pub is_no_memory : Reply → Bool
-is_no_memory (Told text) = false
+is_no_memory (Text text) = false
 is_no_memory (Refused refusal) = false
 is_no_memory NoMemory = true
 

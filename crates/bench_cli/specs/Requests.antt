@@ -59,9 +59,16 @@ AreThreePortWords words name nets = ⊥
 abbrev pub ArePortWords : Kind → List (List ℕ) → List ℕ → List (List ℕ) → Type 0
 ArePortWords kinds.Buf words name nets = AreTwoPortWords words name nets
 ArePortWords kinds.Not words name nets = AreTwoPortWords words name nets
+ArePortWords kinds.And words name nets = AreThreePortWords words name nets
+ArePortWords kinds.Or words name nets = AreThreePortWords words name nets
+ArePortWords kinds.Xor words name nets = AreThreePortWords words name nets
+ArePortWords kinds.Nand words name nets = AreThreePortWords words name nets
+ArePortWords kinds.Nor words name nets = AreThreePortWords words name nets
+ArePortWords kinds.Xnor words name nets = AreThreePortWords words name nets
+ArePortWords kinds.Add words name nets = AreThreePortWords words name nets
+ArePortWords kinds.Mul words name nets = AreThreePortWords words name nets
 ArePortWords (kinds.Const value) words name nets = ⊥
 ArePortWords (kinds.Reg reset) words name nets = ⊥
-ArePortWords kind words name nets = AreThreePortWords words name nets
 
 -- after `const`: the name, the name of the net, which stands three times, and the value
 abbrev pub AreConstantWords : List (List ℕ) → List ℕ → List (List ℕ) → ℕ → Type 0
@@ -70,8 +77,18 @@ AreConstantWords words name nets value = ⊥
 
 -- The command word and the words after it ask for a component of this name and kind at the nets with these names.
 abbrev pub AsksPart : List ℕ → List (List ℕ) → List ℕ → Kind → List (List ℕ) → Type 0
+AsksPart command words name kinds.Buf nets = (kind_named command ≡ Some kinds.Buf) × ArePortWords kinds.Buf words name nets
+AsksPart command words name kinds.Not nets = (kind_named command ≡ Some kinds.Not) × ArePortWords kinds.Not words name nets
+AsksPart command words name kinds.And nets = (kind_named command ≡ Some kinds.And) × ArePortWords kinds.And words name nets
+AsksPart command words name kinds.Or nets = (kind_named command ≡ Some kinds.Or) × ArePortWords kinds.Or words name nets
+AsksPart command words name kinds.Xor nets = (kind_named command ≡ Some kinds.Xor) × ArePortWords kinds.Xor words name nets
+AsksPart command words name kinds.Nand nets = (kind_named command ≡ Some kinds.Nand) × ArePortWords kinds.Nand words name nets
+AsksPart command words name kinds.Nor nets = (kind_named command ≡ Some kinds.Nor) × ArePortWords kinds.Nor words name nets
+AsksPart command words name kinds.Xnor nets = (kind_named command ≡ Some kinds.Xnor) × ArePortWords kinds.Xnor words name nets
+AsksPart command words name kinds.Add nets = (kind_named command ≡ Some kinds.Add) × ArePortWords kinds.Add words name nets
+AsksPart command words name kinds.Mul nets = (kind_named command ≡ Some kinds.Mul) × ArePortWords kinds.Mul words name nets
 AsksPart command words name (kinds.Const value) nets = (command ≡ codes "const") × AreConstantWords words name nets value
-AsksPart command words name kind nets = (kind_named command ≡ Some kind) × ArePortWords kind words name nets
+AsksPart command words name (kinds.Reg reset) nets = ⊥
 
 -- after `measure`: the cell and the value
 abbrev pub AreMeasureWords : List (List ℕ) → List ℕ → ℕ → ℕ → Type 0

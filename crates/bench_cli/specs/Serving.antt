@@ -1,62 +1,67 @@
 -- What serving a request comes to.
-use Rattle.std.specs.Prelude.{◌≡◌, ℕ, ◌<◌, true, false, is_some, List, length, map}
+use Rattle.std.specs.Prelude.{◌≡◌, ℕ, ◌<◌, true, is_some, List, length, Some, None}
 use Rattle.std.specs.List.{All, list_all}
-use Rattle.circuit_model.specs.Present.{Setup, net_named, width_of, with_part}
-use Rattle.circuit_model.specs.Kinds.{RepeatsLast, instances}
-use Rattle.circuit_model.specs.declared.model.Kind.{Kind}
+use Rattle.circuit_model.specs.Present.{PresentView, net_named, with_part}
+use Rattle.circuit_model.specs.Kinds.{RepeatsLast}
 use Rattle.circuit_model.specs.declared.present.Component.{Component}
-use Rattle.bench_cli.specs.Replies.{Reply, Told, Refused, NoMemory}
-use Rattle.bench_cli.specs.State.{State, places_of, checks_of, some_applies, after, is_barred, wants_memory, Does, checks_of_query, cell_of}
+use Rattle.bench_cli.specs.Replies.{Reply, Text, Refused, NoMemory}
+use Rattle.bench_cli.specs.Presents.{State, places_of, cell_of, after}
+use Rattle.bench_cli.specs.Checks.{checks_of, first_refusal}
+use Rattle.bench_cli.specs.State.{wants_memory, Does}
 use Rattle.bench_cli.specs.declared.replies.Answer.{Answer}
 use Rattle.bench_cli.specs.declared.replies.Answer.TheVariants as answer
-use Rattle.bench_cli.specs.declared.replies.Refusal.TheVariants.{NotBuilt}
 use Rattle.bench_cli.specs.declared.requests.Change.{Change}
-use Rattle.bench_cli.specs.declared.requests.Change.TheVariants.{Add}
+use Rattle.bench_cli.specs.declared.requests.Change.TheVariants.{Net, Add, Measure}
 use Rattle.bench_cli.specs.declared.requests.Query.{Query}
 use Rattle.bench_cli.specs.declared.requests.Query.TheVariants.{Label}
 use Rattle.bench_cli.specs.declared.requests.Request.{Request}
 use Rattle.bench_cli.specs.declared.requests.Request.TheVariants as request
 
 -- each name is a net's, and these are their places
-pub record AreNets (s : Setup) (names : List (List ℕ)) (places : List ℕ) : Type 0 where
+pub record AreNets (s : PresentView) (names : List (List ℕ)) (places : List ℕ) : Type 0 where
   pub known : list_all (λ name. is_some (net_named s name)) names ≡ true
   pub found : places ≡ places_of s names
   pub within : All (λ place. place < length s.nets) places
 
--- the component of this name and kind at the nets at these places
-abbrev pub part_of : Setup → List ℕ → Kind → List ℕ → Component
-part_of s name kind places = record { name = name; kind = kind; nets = places; part = instances kind places (map (width_of s) places) s.cycles }
-
 -- the component is put last, or no memory is found
-abbrev pub PlacesPart : Setup → Component → Answer → Setup → Type 0
-PlacesPart old component answer.Accepted new = new ≡ with_part component old
+abbrev pub PlacesPart : State → Component → Answer → State → Type 0
+PlacesPart old component answer.Nothing new = ⊥
+PlacesPart old component answer.Accepted new = new ≡ record old { present = with_part component old.present }
+PlacesPart old component (answer.Label cell) new = ⊥
+PlacesPart old component (answer.Refused refusal) new = ⊥
 PlacesPart old component answer.NoMemory new = new ≡ old
-PlacesPart old component answer new = ⊥
 
 -- unused places of a component's nets repeat the last one
 abbrev pub IsPadded : Change → Type 0
+IsPadded (Net name width) = Unit {0}
 IsPadded (Add name kind nets) = RepeatsLast kind nets
-IsPadded change = Unit {0}
+IsPadded (Measure net cycle value) = Unit {0}
 
+-- and so they do where a request is such a change
 abbrev pub AsksPadded : Request → Type 0
+AsksPadded request.Nothing = Unit {0}
 AsksPadded (request.Change change) = IsPadded change
-AsksPadded request = Unit {0}
+AsksPadded (request.Query query) = Unit {0}
 
--- A check applies, and then nothing changes; or none does, and then the change is made or finds no memory.
-abbrev pub Changes : Setup → Change → Answer → Setup → Type 0
-Changes old change answer.Accepted new = (some_applies (checks_of old change) ≡ false) × (new ≡ after old change)
-Changes old change (answer.Refused refusal) new = (some_applies (checks_of old change) ≡ true) × (new ≡ old)
-Changes old change answer.NoMemory new = (some_applies (checks_of old change) ≡ false) × (new ≡ old)
-Changes old change answer new = ⊥
+-- The first check that applies refuses, and then nothing changes; or none does, and then the change is made or finds no
+-- memory.
+abbrev pub Changes : State → Change → Answer → State → Type 0
+Changes old change answer.Nothing new = ⊥
+Changes old change answer.Accepted new = (first_refusal (checks_of old (request.Change change)) ≡ None) × (new ≡ after old change)
+Changes old change (answer.Label cell) new = ⊥
+Changes old change (answer.Refused refusal) new = (first_refusal (checks_of old (request.Change change)) ≡ Some refusal) × (new ≡ old)
+Changes old change answer.NoMemory new = (first_refusal (checks_of old (request.Change change)) ≡ None) × (wants_memory old (request.Change change) ≡ true) × (new ≡ old)
 
 -- a request that was served, or refused, or that found no memory
 abbrev pub Serves : State → Request → Reply → State → Type 0
-Serves old request NoMemory new = (is_barred old request ≡ false) × (wants_memory request ≡ true) × (new ≡ old)
-Serves old request (Refused NotBuilt) new = (is_barred old request ≡ true) × (new ≡ old)
-Serves old request (Told text) new = (is_barred old request ≡ false) × Does old request (Told text) new
+Serves old request NoMemory new = (first_refusal (checks_of old request) ≡ None) × (wants_memory old request ≡ true) × (new ≡ old)
+Serves old request (Refused refusal) new = (first_refusal (checks_of old request) ≡ Some refusal) × (new ≡ old)
+Serves old request (Text text) new = (first_refusal (checks_of old request) ≡ None) × Does old request (Text text) new
 
--- A check applies to a question, or none does, and then it is answered. It takes no memory.
-abbrev pub Asked : Setup → Query → Answer → Type 0
-Asked s (Label net cycle) (answer.Label cell) = (some_applies (checks_of_query s (Label net cycle)) ≡ false) × (cell ≡ cell_of s net cycle)
-Asked s query (answer.Refused refusal) = some_applies (checks_of_query s query) ≡ true
-Asked s query answer = ⊥
+-- The first check that applies refuses a question, or none does, and then it is answered. It takes no memory.
+abbrev pub Asked : State → Query → Answer → Type 0
+Asked s query answer.Nothing = ⊥
+Asked s query answer.Accepted = ⊥
+Asked s (Label net cycle) (answer.Label cell) = (first_refusal (checks_of s (request.Query (Label net cycle))) ≡ None) × (cell ≡ cell_of s.present net cycle)
+Asked s query (answer.Refused refusal) = first_refusal (checks_of s (request.Query query)) ≡ Some refusal
+Asked s query answer.NoMemory = ⊥

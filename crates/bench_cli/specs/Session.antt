@@ -1,7 +1,9 @@
 -- What a whole session reads and writes, and the status that it ends with.
 use Rattle.std.specs.Prelude.{◌≡◌, ◌⊎◌, ℕ, ◌+◌, ◌<◌, ◌≤◌, List, [], ◌∷◌, ◌++◌, length, take, drop, Option, Some, None}
 use Rattle.std.specs.Io.KnownBytes.{Appends, Keeps}
-use Rattle.bench_io.specs.Lines.{MOST_BYTES, lines_of, whole_lines_of, session_lines}
+use Rattle.bench_io.specs.Lines.{lines_of, whole_lines_of, session_lines}
+use Rattle.bench_io.specs.Streams.{Telling}
+use Rattle.bench_io.specs.declared.limits.TheConstants.{MOST_BYTES, BUFFER_ROOM}
 use Rattle.bench_cli.specs.Replies.{Exchange, text_of, transcript, lines_of_exchanges, has_refused, has_no_memory}
 use Rattle.bench_cli.specs.State.{State, empty, Run}
 use Rattle.bench_cli.specs.Statuses.{status_by}
@@ -27,12 +29,14 @@ pub record ReadsMost (lines : List (List ℕ)) (input left : List ℕ) : Type 0 
   pub each : lines ≡ whole_lines_of (take MOST_BYTES input)
   pub rest : left ≡ drop (MOST_BYTES + 1) input
 
--- these are the first lines of the session, and lie among the bytes that were taken
+-- These are the first lines of the session, and lie among the bytes that were taken. No more was taken ahead of them
+-- than a reader has room for.
 pub record ReadsSome (lines : List (List ℕ)) (input left : List ℕ) : Type 0 where
   pub read : List ℕ
   pub ahead : List ℕ
   pub split : input ≡ read ++ (ahead ++ left)
   pub fits : length (read ++ ahead) ≤ MOST_BYTES
+  pub near : length ahead ≤ BUFFER_ROOM
   pub each : lines ≡ lines_of read
   pub after : List (List ℕ)
   pub first : session_lines input ≡ lines ++ after
@@ -80,8 +84,8 @@ Outcome Usage exchanges input left before now = ⊥
 
 -- A session: lines and their replies are a run from the empty state, and the status says what they are of the
 -- input and the output.
-pub record Session (status : Status) (input left before now : Option (List ℕ)) : Type 0 where
+pub record Session (status : Status) (source_before source_now sink_before sink_now : Telling) : Type 0 where
   pub exchanges : List Exchange
   pub state : State
   pub run : Run empty exchanges state
-  pub outcome : Outcome status exchanges input left before now
+  pub outcome : Outcome status exchanges source_before.bytes source_now.bytes sink_before.bytes sink_now.bytes

@@ -9,6 +9,7 @@ use Rattle.bench_cli.specs.declared.Status.TheVariants.{Usage, WriteFault}
 abbrev pub IsRun : {Z : Type 0} → List (String Z) → Type 0
 IsRun words = map string_bytes words ≡ codes "run" ∷ []
 
+-- the line that says which words there are
 abbrev pub usage_line : List ℕ
 usage_line = codes "usage: gde run | run order N | make N SEED\n"
 

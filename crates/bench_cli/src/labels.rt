@@ -1,8 +1,8 @@
 // The printed label of a cell, written without memory.
-ghost use Rattle.std.specs.Prelude.{◌<◌, ◌++◌, List, codes, length};
+ghost use Rattle.std.specs.Prelude.{◌<◌, ◌++◌, List, codes, length, []};
 ghost use Rattle.bench_io.specs.Writing.{Writes};
 ghost use Rattle.circuit_model.specs.Printed.{Labelled, IsPrintedLabel};
-ghost use Rattle.inference_search.specs.Slots.{stock};
+ghost use Rattle.assumption_slots.specs.Slots.{stock};
 ghost use Rattle.standing_view.specs.View.{StandsFor};
 ghost use Rattle.bench_cli.specs.Labels.{PutsLabel};
 ghost use Rattle.bench_cli.specs.Texts.{label_lines};
@@ -22,9 +22,9 @@ fn put_label<K: Sink>(
     standing: &Standing,
     fact: Fact,
 ) -> bool
-    requires stands { StandsFor (stock engine.now.slots) standing.now present.now }
+    requires stands { StandsFor (stock engine.now.slots) standing.now present.now [] }
     requires net { fact.cell.net < length present.now.nets }
-    ensures { PutsLabel present.now fact failed result (K.held sink.old) (K.held sink.new) (K.faults sink.old) (K.faults sink.new) }
+    ensures { PutsLabel present.now fact failed result (K.told sink.old) (K.told sink.new) }
 {
     let mut failed = failed;
     let mut last = None;
@@ -43,10 +43,10 @@ pub fn write_label<K: Sink>(
     cell: Cell,
     sink: &mut K,
 ) -> Result<(), Failed>
-    requires stands { StandsFor (stock engine.now.slots) standing.now present.now }
+    requires stands { StandsFor (stock engine.now.slots) standing.now present.now [] }
     requires net { cell.net < length present.now.nets }
     ensures { (label : List Labelled) × IsPrintedLabel present.now cell label
-        × Writes (K.held sink.old) (K.held sink.new) (K.faults sink.old) (K.faults sink.new) result (label_lines present.now cell label ++ codes "ok\n") }
+        × Writes (K.told sink.old) (K.told sink.new) result (label_lines present.now cell label ++ codes "ok\n") }
 {
     let mut failed = false;
     let mut last = None;

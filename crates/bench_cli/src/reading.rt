@@ -1,7 +1,7 @@
 // How lines are read, without memory.
 ghost use Rattle.std.specs.Prelude.{◌≡◌, ◌<◌, ◌↔◌, ℕ, [], IsTrue, MatchOption};
 ghost use Rattle.std.specs.List.{All};
-ghost use Rattle.bench_cli.specs.Grammar.{words_of, is_blank, IsPrintable, IsSilent, IsNumber, IsDigit};
+ghost use Rattle.bench_cli.specs.Grammar.{words_of, is_blank, IsPrintable, IsNumber, IsDigit};
 ghost use Rattle.bench_cli.specs.Reading.{SkipsBlanks, EndsWord, FindsWord};
 
 /// The most digits of a number.
@@ -61,16 +61,6 @@ pub fn next_word(bytes: &[u8]) -> Option<(&[u8], &[u8])>
         return None;
     }
     Some((&front[..len], &front[len..]))
-}
-
-/// Whether the line asks for nothing, by its words.
-pub fn is_silent(line: &[u8]) -> bool
-    ensures { IsTrue result ↔ IsSilent (words_of line.now) }
-{
-    match next_word(line) {
-        None => true,
-        Some((word, _)) => word[0] == b'#',
-    }
 }
 
 fn is_digit(b: u8) -> bool

@@ -1,7 +1,8 @@
 // What the present holds is remembered by the engine, and stands.
-ghost use Rattle.std.specs.Prelude.{◌≡◌, ◌<◌, length, None, IfOk, IfErr};
-ghost use Rattle.circuit_model.specs.Present.{MOST_READINGS, reading_in, with_standing, without_last_part};
-ghost use Rattle.inference_search.specs.Slots.{stock};
+ghost use Rattle.std.specs.Prelude.{◌≡◌, ◌<◌, length, None, IfOk, IfErr, []};
+ghost use Rattle.circuit_model.specs.Present.{reading_in, with_standing, without_last_part};
+ghost use Rattle.circuit_model.specs.declared.limits.TheConstants.{MOST_READINGS};
+ghost use Rattle.assumption_slots.specs.Slots.{stock};
 ghost use Rattle.standing_view.specs.View.{StandsFor};
 
 use circuit_model::{Assumption, Fact, Present};
@@ -18,9 +19,9 @@ pub fn remember_last(
     standing: &mut Standing,
 ) -> Result<(), AllocError>
     requires some { 0 < length present.now.parts }
-    requires stands { StandsFor (stock engine.old.slots) standing.old (without_last_part present.now) }
-    ensures ok { IfOk result (λ _. StandsFor (stock engine.new.slots) standing.new present.now) }
-    ensures err { IfErr result (λ _. StandsFor (stock engine.new.slots) standing.new (without_last_part present.now)) }
+    requires stands { StandsFor (stock engine.old.slots) standing.old (without_last_part present.now) [] }
+    ensures ok { IfOk result (λ _. StandsFor (stock engine.new.slots) standing.new present.now []) }
+    ensures err { IfErr result (λ _. StandsFor (stock engine.new.slots) standing.new (without_last_part present.now) []) }
 {
     let part = present.part_at(present.parts() - 1).part.copy(alloc)?;
     match engine.assume(Assumption::Part(part), &mut Oldest) {
@@ -42,9 +43,9 @@ pub fn remember_reading(
 ) -> Result<(), AllocError>
     requires free { reading_in present.now.readings fact.cell ≡ None }
     requires room { length present.now.readings < MOST_READINGS }
-    requires stands { StandsFor (stock engine.old.slots) standing.old present.now }
-    ensures ok { IfOk result (λ _. StandsFor (stock engine.new.slots) standing.new (with_standing fact present.now)) }
-    ensures err { IfErr result (λ _. StandsFor (stock engine.new.slots) standing.new present.now) }
+    requires stands { StandsFor (stock engine.old.slots) standing.old present.now [] }
+    ensures ok { IfOk result (λ _. StandsFor (stock engine.new.slots) standing.new (with_standing fact present.now) []) }
+    ensures err { IfErr result (λ _. StandsFor (stock engine.new.slots) standing.new present.now []) }
 {
     let _readings = present.readings();
     match engine.assume(Assumption::Reading(fact), &mut Oldest) {

@@ -1,17 +1,35 @@
-// What a line is answered, and how that is written.
+// What a line is answered.
 ghost use Rattle.std.specs.Prelude.{◌≡◌};
-ghost use Rattle.bench_io.specs.Writing.{Writes};
-ghost use Rattle.bench_cli.specs.Replies.{Reply, text_of, number_of, words_of_refusal, refusal_line};
-ghost use Rattle.bench_cli.specs.Answers.{IsReply, IsWritable};
+ghost use Rattle.bench_cli.specs.Replies.{number_of, text_of_refusal};
 
-use crate::state::Bench;
-use bench_io::{Failed, Sink, write_all, write_pieces};
 use circuit_model::Cell;
-use itoa::Buffer;
 
 /// Why a line changes and answers nothing. Want of memory is none of these.
 #[derive(Clone, Copy, Debug, PartialEq, Eq)]
 pub enum Refusal {
+    /// A net or a component has the new name.
+    NameTaken,
+    /// A name is that of no net.
+    UnknownNet,
+    /// The width is no width of words.
+    BadWidth,
+    /// The widths of the nets break the rule of the kind.
+    WidthsDisagree,
+    /// The cycle is none of the present.
+    BadCycle,
+    /// The value does not fit the width of its net.
+    ValueDoesNotFit,
+    /// As many nets are declared as a present may have.
+    NetsFull,
+    /// As many components are declared as a present may have.
+    ComponentsFull,
+    /// The cells with those of the new net are more than a present may have.
+    CellsFull,
+    /// As many measurements stand as a present may have.
+    MeasurementsFull,
+    /// A measurement stands at the cell.
+    AlreadyMeasured,
+    /// The line is too long, has a byte that no line may have, or is none that is read.
     NotBuilt,
 }
 
@@ -24,53 +42,50 @@ pub enum Answer {
     Accepted,
     /// The printed label of a cell.
     Label { cell: Cell },
-    /// The line is refused.
+    /// The line is refused, and changes nothing.
     Refused(Refusal),
-    /// The line found no memory.
+    /// The line found no memory, and changes nothing.
     NoMemory,
 }
 
-/// The number of the refusal for want of memory.
-const NO_MEMORY: u64 = 90;
-
 impl Refusal {
-    fn number(&self) -> u64
+    /// The number that the reply has: from 20 to 25, 30 to 33, 40 or 50.
+    pub fn number(&self) -> u64
         ensures { result ≡ number_of self.now }
     {
         match self {
+            Refusal::NameTaken => 20,
+            Refusal::UnknownNet => 21,
+            Refusal::BadWidth => 22,
+            Refusal::WidthsDisagree => 23,
+            Refusal::BadCycle => 24,
+            Refusal::ValueDoesNotFit => 25,
+            Refusal::NetsFull => 30,
+            Refusal::ComponentsFull => 31,
+            Refusal::CellsFull => 32,
+            Refusal::MeasurementsFull => 33,
+            Refusal::AlreadyMeasured => 40,
             Refusal::NotBuilt => 50,
         }
     }
 
-    fn words(&self) -> &'static [u8]
-        ensures { result.now ≡ words_of_refusal self.now }
+    /// The text after the number.
+    pub fn text(&self) -> &'static [u8]
+        ensures { result.now ≡ text_of_refusal self.now }
     {
         match self {
+            Refusal::NameTaken => b"name taken",
+            Refusal::UnknownNet => b"unknown net",
+            Refusal::BadWidth => b"bad width",
+            Refusal::WidthsDisagree => b"widths disagree",
+            Refusal::BadCycle => b"bad cycle",
+            Refusal::ValueDoesNotFit => b"value does not fit",
+            Refusal::NetsFull => b"nets full",
+            Refusal::ComponentsFull => b"components full",
+            Refusal::CellsFull => b"cells full",
+            Refusal::MeasurementsFull => b"measurements full",
+            Refusal::AlreadyMeasured => b"already measured",
             Refusal::NotBuilt => b"not built",
         }
-    }
-}
-
-fn write_refusal<K: Sink>(sink: &mut K, number: u64, words: &[u8]) -> Result<(), Failed>
-    ensures { Writes (K.held sink.old) (K.held sink.new) (K.faults sink.old) (K.faults sink.new) result
-        (refusal_line number words.now) }
-{
-    let mut buffer = Buffer::new();
-    let digits = buffer.format(number).as_bytes();
-    write_pieces(sink, &[b"no ", digits, b" ", words, b"\n"])
-}
-
-/// Writes the reply. At `Err` a front of it was written.
-pub fn write_answer<K: Sink>(bench: &Bench, answer: &Answer, sink: &mut K) -> Result<(), Failed>
-    requires { IsWritable bench.now answer.now }
-    ensures { (reply : Reply) × IsReply bench.now answer.now reply
-        × Writes (K.held sink.old) (K.held sink.new) (K.faults sink.old) (K.faults sink.new) result (text_of reply) }
-{
-    match answer {
-        Answer::Nothing => write_all(sink, b""),
-        Answer::Accepted => write_all(sink, b"ok\n"),
-        Answer::Label { cell } => bench.write_label(*cell, sink),
-        Answer::Refused(refusal) => write_refusal(sink, refusal.number(), refusal.words()),
-        Answer::NoMemory => write_refusal(sink, NO_MEMORY, b"no memory"),
     }
 }

@@ -9,10 +9,11 @@ ghost use Rattle.bench_cli.specs.Requests.{AreNetWords, AreTwoPortWords, AreThre
 use crate::reading::{next_word, read_number};
 use circuit_model::{Kind, Name};
 
-/// A change of the present.
+/// A change of the present, as a line asks for it. Its numbers are those of the line, of at most ten digits each;
+/// whether they fit the present is for the checks.
 #[derive(Clone, Copy, PartialEq, Eq, Debug)]
 pub enum Change {
-    /// A net of this name, with words of so many bits.
+    /// A net of this name, with words of so many bits; a check refuses what is no width.
     Net {
         name: Name,
         width: u64,
@@ -23,7 +24,8 @@ pub enum Change {
         kind: Kind,
         nets: [Name; 3],
     },
-    /// A word seen at the cell of a net at a cycle.
+    /// A word seen at the cell of a net at a cycle. The cycle is below the number of cycles, and the word fits the net,
+    /// or a check refuses it.
     Measure {
         net: Name,
         cycle: u64,
@@ -34,7 +36,7 @@ pub enum Change {
 /// A question on the present.
 #[derive(Clone, Copy, PartialEq, Eq, Debug)]
 pub enum Query {
-    /// What follows at the cell of a net at a cycle.
+    /// What follows at the cell of a net at a cycle, which is below the number of cycles, or a check refuses it.
     Label { net: Name, cycle: u64 },
 }
 
@@ -132,7 +134,14 @@ fn read_ports(kind: Kind, bytes: &[u8]) -> Option<(Name, [Name; 3])>
     match kind {
         Kind::Buf | Kind::Not => read_two_ports(bytes),
         Kind::Const { .. } | Kind::Reg { .. } => None,
-        _ => read_three_ports(bytes),
+        Kind::And
+        | Kind::Or
+        | Kind::Xor
+        | Kind::Nand
+        | Kind::Nor
+        | Kind::Xnor
+        | Kind::Add
+        | Kind::Mul => read_three_ports(bytes),
     }
 }
 

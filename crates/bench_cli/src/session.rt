@@ -1,16 +1,17 @@
 // A whole session: a line is read, its step is taken and its reply is written, until the end.
-ghost use Rattle.std.specs.Prelude.{◌≡◌, ◌≤◌, ◌↔◌, false};
+ghost use Rattle.std.specs.Prelude.{◌≡◌, ◌≤◌, ◌<◌, ◌↔◌, false};
 ghost use Rattle.bench_io.specs.Causes.{Rose};
 ghost use Rattle.bench_cli.specs.Session.{Session, WhereTold};
 ghost use Rattle.bench_cli.specs.Causes.{TakesTooMuch};
-ghost use Rattle.bench_cli.specs.Turns.{Steps, tally_after, status_of, ending_of};
+ghost use Rattle.bench_cli.specs.Turns.{Steps, tally_after, status_of, status_at};
 ghost use Rattle.bench_cli.specs.Answers.{IsReply};
 ghost use Rattle.bench_cli.specs.Replies.{Reply};
 ghost use Rattle.bench_cli.specs.State.{State};
 
 use crate::Status;
-use crate::replies::{Answer, Refusal, write_answer};
+use crate::replies::{Answer, Refusal};
 use crate::state::Bench;
+use crate::writing::write_answer;
 use bench_io::{Line, LineReader, ReadStop, Sink, Source};
 use std::alloc::Global;
 
@@ -22,6 +23,7 @@ pub struct Tally {
 }
 
 impl Tally {
+    // Takes note of one answer more.
     fn note(&mut self, answer: &Answer)
         ensures { (s : State) (reply : Reply) → IsReply s answer.now reply → self.new ≡ tally_after self.old reply }
     {
@@ -32,6 +34,7 @@ impl Tally {
         }
     }
 
+    // The status of a session that was read to its end.
     fn status(&self) -> Status
         ensures { result ≡ status_of self.now }
     {
@@ -47,7 +50,7 @@ impl Tally {
 
 // Why no more lines come.
 #[derive(Clone, Copy, Debug)]
-enum Stop {
+enum Ending {
     End,
     Failed,
     TooMuch,
@@ -58,40 +61,44 @@ fn step<S: Source>(
     reader: &mut LineReader,
     bench: &mut Bench,
     source: &mut S,
-) -> Result<Answer, Stop>
+) -> Result<Answer, Ending>
     requires { reader.old.is_over ≡ false }
-    ensures { Steps reader.old reader.new bench.old bench.new (S.left source.old) (S.left source.new)
-        (S.faults source.old) (S.faults source.new) result }
+    ensures { Steps reader.old reader.new bench.old bench.new (S.told source.old) (S.told source.new) result }
 {
     match reader.next_line(source) {
         Ok(Line::Text(line)) => Ok(bench.take(line)),
         Ok(Line::TooLong) => Ok(Answer::Refused(Refusal::NotBuilt)),
-        Ok(Line::End) => Err(Stop::End),
-        Err(ReadStop::Failed) => Err(Stop::Failed),
-        Err(ReadStop::TooMuch) => Err(Stop::TooMuch),
+        Ok(Line::End) => Err(Ending::End),
+        Err(ReadStop::Failed) => Err(Ending::Failed),
+        Err(ReadStop::TooMuch) => Err(Ending::TooMuch),
     }
 }
 
-// The status of a session that stops.
-fn ending(stop: Stop, tally: &Tally) -> Status
-    ensures { result ≡ ending_of stop tally.now }
+// The status of a session that ends so.
+fn status_at(ending: Ending, tally: &Tally) -> Status
+    ensures { result ≡ status_at ending tally.now }
 {
-    match stop {
-        Stop::End => tally.status(),
-        Stop::Failed => Status::ReadFault,
-        Stop::TooMuch => Status::TooMuch,
+    match ending {
+        Ending::End => tally.status(),
+        Ending::Failed => Status::ReadFault,
+        Ending::TooMuch => Status::TooMuch,
     }
 }
 
 /// Runs the session that is read.
 pub fn run<S: Source, K: Sink>(alloc: Global, source: &mut S, sink: &mut K) -> Status
-    ensures session { Session result (S.left source.old) (S.left source.new) (K.held sink.old) (K.held sink.new) }
-    ensures read_fault { result ≡ Status.ReadFault → Rose (S.faults source.old) (S.faults source.new) }
-    ensures write_fault { result ≡ Status.WriteFault → Rose (K.faults sink.old) (K.faults sink.new) }
-    ensures too_much { WhereTold (S.left source.old) (S.left source.new) (λ input left.
+    ensures session { Session result (S.told source.old) (S.told source.new) (K.told sink.old) (K.told sink.new) }
+
+    // A read or a write failed just where the status says so.
+    ensures read_fault { result ≡ Status.ReadFault → Rose (S.told source.old).faults (S.told source.new).faults }
+    ensures read_counted { (S.told source.old).faults < (S.told source.new).faults → result ≡ Status.ReadFault }
+    ensures write_fault { result ≡ Status.WriteFault → Rose (K.told sink.old).faults (K.told sink.new).faults }
+    ensures write_counted { (K.told sink.old).faults < (K.told sink.new).faults → result ≡ Status.WriteFault }
+
+    ensures too_much { WhereTold (S.told source.old).bytes (S.told source.new).bytes (λ input left.
         (result ≡ Status.TooMuch) ↔ TakesTooMuch input left) }
-    ensures source_later { S.faults source.old ≤ S.faults source.new }
-    ensures sink_later { K.faults sink.old ≤ K.faults sink.new }
+    ensures source_later { (S.told source.old).faults ≤ (S.told source.new).faults }
+    ensures sink_later { (K.told sink.old).faults ≤ (K.told sink.new).faults }
 {
     let mut reader = match LineReader::open(alloc) {
         Ok(reader) => reader,
@@ -113,7 +120,7 @@ pub fn run<S: Source, K: Sink>(alloc: Global, source: &mut S, sink: &mut K) -> S
                     return Status::WriteFault;
                 }
             }
-            Err(stop) => return ending(stop, &tally),
+            Err(ending) => return status_at(ending, &tally),
         }
     }
 }

@@ -1,7 +1,7 @@
 // How cells, facts and environments are written, without memory.
 ghost use Rattle.std.specs.Prelude.{◌<◌, ◌==◌, ◌++◌, codes, decimal, length, [], if◌then◌else◌};
 ghost use Rattle.std.specs.List.{join_with_byte};
-ghost use Rattle.bench_cli.specs.Labels.{StandsAlike};
+ghost use Rattle.bench_cli.specs.Labels.{StandsForPresent};
 ghost use Rattle.bench_cli.specs.Puts.{Puts};
 ghost use Rattle.environment_sets.specs.Members.{members};
 ghost use Rattle.standing_view.specs.View.{places};
@@ -15,7 +15,7 @@ use standing_view::Standing;
 
 /// Writes the bytes, unless a write has failed before. It answers whether one has failed.
 pub fn put<K: Sink>(sink: &mut K, failed: bool, bytes: &[u8]) -> bool
-    ensures { Puts failed result (K.held sink.old) (K.held sink.new) (K.faults sink.old) (K.faults sink.new) bytes.now }
+    ensures { Puts failed result (K.told sink.old) (K.told sink.new) bytes.now }
 {
     if failed {
         return true;
@@ -24,7 +24,7 @@ pub fn put<K: Sink>(sink: &mut K, failed: bool, bytes: &[u8]) -> bool
 }
 
 fn put_number<K: Sink>(sink: &mut K, failed: bool, number: u64) -> bool
-    ensures { Puts failed result (K.held sink.old) (K.held sink.new) (K.faults sink.old) (K.faults sink.new) (decimal number) }
+    ensures { Puts failed result (K.told sink.old) (K.told sink.new) (decimal number) }
 {
     let mut buffer = Buffer::new();
     put(sink, failed, buffer.format(number).as_bytes())
@@ -32,7 +32,7 @@ fn put_number<K: Sink>(sink: &mut K, failed: bool, number: u64) -> bool
 
 // A piece of a list, after a comma unless it is the first.
 fn put_piece<K: Sink>(sink: &mut K, failed: bool, is_first: bool, piece: &[u8]) -> bool
-    ensures { Puts failed result (K.held sink.old) (K.held sink.new) (K.faults sink.old) (K.faults sink.new) (if is_first then piece.now else codes "," ++ piece.now) }
+    ensures { Puts failed result (K.told sink.old) (K.told sink.new) (if is_first then piece.now else codes "," ++ piece.now) }
 {
     if is_first {
         return put(sink, failed, piece);
@@ -42,7 +42,7 @@ fn put_piece<K: Sink>(sink: &mut K, failed: bool, is_first: bool, piece: &[u8]) 
 }
 
 fn put_cycle<K: Sink>(sink: &mut K, failed: bool, cycle: u8) -> bool
-    ensures { Puts failed result (K.held sink.old) (K.held sink.new) (K.faults sink.old) (K.faults sink.new) (if cycle == 0 then [] else codes "@" ++ decimal cycle) }
+    ensures { Puts failed result (K.told sink.old) (K.told sink.new) (if cycle == 0 then [] else codes "@" ++ decimal cycle) }
 {
     if cycle == 0 {
         return put(sink, failed, b"");
@@ -53,7 +53,7 @@ fn put_cycle<K: Sink>(sink: &mut K, failed: bool, cycle: u8) -> bool
 
 fn put_cell<K: Sink>(sink: &mut K, failed: bool, present: &Present, cell: Cell) -> bool
     requires { cell.net < length present.now.nets }
-    ensures { Puts failed result (K.held sink.old) (K.held sink.new) (K.faults sink.old) (K.faults sink.new) (cell_text present.now cell) }
+    ensures { Puts failed result (K.told sink.old) (K.told sink.new) (cell_text present.now cell) }
 {
     let (name, _) = present.net_at(cell.net);
     let failed = put(sink, failed, name.bytes());
@@ -62,7 +62,7 @@ fn put_cell<K: Sink>(sink: &mut K, failed: bool, present: &Present, cell: Cell) 
 
 fn put_fact<K: Sink>(sink: &mut K, failed: bool, present: &Present, fact: Fact) -> bool
     requires { fact.cell.net < length present.now.nets }
-    ensures { Puts failed result (K.held sink.old) (K.held sink.new) (K.faults sink.old) (K.faults sink.new) (fact_text present.now fact) }
+    ensures { Puts failed result (K.told sink.old) (K.told sink.new) (fact_text present.now fact) }
 {
     let failed = put_cell(sink, failed, present, fact.cell);
     let failed = put(sink, failed, b"=");
@@ -77,8 +77,8 @@ fn put_parts<K: Sink>(
     standing: &Standing,
     env: &Env,
 ) -> bool
-    requires { StandsAlike standing.now present.now }
-    ensures { Puts failed result (K.held sink.old) (K.held sink.new) (K.faults sink.old) (K.faults sink.new) (join_with_byte 44 (part_names_in (places standing.now (members env.now)) 0 present.now.parts)) }
+    requires { StandsForPresent standing.now present.now }
+    ensures { Puts failed result (K.told sink.old) (K.told sink.new) (join_with_byte 44 (part_names_in (places standing.now (members env.now)) 0 present.now.parts)) }
 {
     let mut failed = failed;
     let mut is_first = true;
@@ -101,7 +101,7 @@ fn put_next_cell<K: Sink>(
     cell: Cell,
 ) -> bool
     requires { cell.net < length present.now.nets }
-    ensures { Puts failed result (K.held sink.old) (K.held sink.new) (K.faults sink.old) (K.faults sink.new) (if is_first then cell_text present.now cell else codes "," ++ cell_text present.now cell) }
+    ensures { Puts failed result (K.told sink.old) (K.told sink.new) (if is_first then cell_text present.now cell else codes "," ++ cell_text present.now cell) }
 {
     if is_first {
         return put_cell(sink, failed, present, cell);
@@ -118,8 +118,8 @@ fn put_cells<K: Sink>(
     standing: &Standing,
     env: &Env,
 ) -> bool
-    requires { StandsAlike standing.now present.now }
-    ensures { Puts failed result (K.held sink.old) (K.held sink.new) (K.faults sink.old) (K.faults sink.new) (join_with_byte 44 (cells_in present.now (places standing.now (members env.now)) present.now.readings)) }
+    requires { StandsForPresent standing.now present.now }
+    ensures { Puts failed result (K.told sink.old) (K.told sink.new) (join_with_byte 44 (cells_in present.now (places standing.now (members env.now)) present.now.readings)) }
 {
     let mut failed = failed;
     let mut is_first = true;
@@ -140,8 +140,8 @@ fn put_environment<K: Sink>(
     standing: &Standing,
     env: &Env,
 ) -> bool
-    requires { StandsAlike standing.now present.now }
-    ensures { Puts failed result (K.held sink.old) (K.held sink.new) (K.faults sink.old) (K.faults sink.new) (environment_text present.now (places standing.now (members env.now))) }
+    requires { StandsForPresent standing.now present.now }
+    ensures { Puts failed result (K.told sink.old) (K.told sink.new) (environment_text present.now (places standing.now (members env.now))) }
 {
     let failed = put(sink, failed, b"{");
     let failed = put_parts(sink, failed, present, standing, env);
@@ -160,8 +160,8 @@ pub fn put_label_line<K: Sink>(
     env: &Env,
 ) -> bool
     requires net { fact.cell.net < length present.now.nets }
-    requires alike { StandsAlike standing.now present.now }
-    ensures { Puts failed result (K.held sink.old) (K.held sink.new) (K.faults sink.old) (K.faults sink.new) (label_line present.now fact (places standing.now (members env.now))) }
+    requires stands { StandsForPresent standing.now present.now }
+    ensures { Puts failed result (K.told sink.old) (K.told sink.new) (label_line present.now fact (places standing.now (members env.now))) }
 {
     let failed = put_fact(sink, failed, present, fact);
     let failed = put(sink, failed, b" ");

@@ -1,12 +1,14 @@
 -- The lines of bytes that are cut at a newline, and what a call of a reader gives of them.
 use Rattle.std.proofs.Common.{◌≡◌, ◌≢◌, ℕ, ◌+◌, ◌<◌, ◌==◌, false, List, [], ◌∷◌, ◌++◌, length, Option, Some, Ok, Err, refl, sym, ◌∙◌, ap, append_assoc, arith, inl, inr, length-append}
+use Rattle.std.proofs.lemmas.List.{append-nil}
 use Rattle.bench_io.specs.Lines.{HasNoNewline, lines_of, whole_lines_of}
 use Rattle.bench_io.specs.Reading.{Reading, Begins, lines_ahead}
 use Rattle.bench_io.specs.Laws.{CutsLines, CallsGiveFirst, IsSpent, lines_in}
 use Rattle.bench_io.specs.declared.lines.Line.TheVariants.{Text, TooLong, End}
-use Rattle.bench_io.proofs.Bytes.{append-nil, no_bytes}
+use Rattle.bench_io.proofs.Bytes.{no_bytes}
 
-not_newline : (b : ℕ) → (b ≡ 10 → ⊥) → (b == 10) ≡ false
+-- a byte that is no newline is not one by the test either
+pub not_newline : (b : ℕ) → (b ≡ 10 → ⊥) → (b == 10) ≡ false
 not_newline b h = grind arith
 
 pub lines_of-cut : (line rest : List ℕ) → HasNoNewline line → lines_of (line ++ 10 ∷ rest) ≡ line ∷ lines_of rest
@@ -29,7 +31,8 @@ whole_lines_of-rest (b ∷ rest) h = rw (not_newline b h.0, whole_lines_of-rest 
 pub cuts_lines : CutsLines
 cuts_lines = record { nothing = refl; newline = lines_of-cut; last = lines_of-last; whole = whole_lines_of-cut; not_whole = whole_lines_of-rest }
 
-some_byte : (line : List ℕ) → line ≢ [] → 0 < length line
+-- a line that is not empty has a byte
+pub some_byte : (line : List ℕ) → line ≢ [] → 0 < length line
 some_byte [] ne = absurd (ne refl)
 some_byte (b ∷ line) ne = omega arith
 

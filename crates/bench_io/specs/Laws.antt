@@ -1,6 +1,7 @@
 -- Laws of the lines of a list of bytes, and of the lines that a reader gives.
 use Rattle.std.specs.Prelude.{◌≡◌, ◌≢◌, ℕ, ◌≤◌, ◌<◌, true, List, [], ◌∷◌, ◌++◌, length, Some, Result, Ok, Err}
-use Rattle.bench_io.specs.Lines.{LONGEST, HasNoNewline, lines_of, whole_lines_of}
+use Rattle.bench_io.specs.Lines.{HasNoNewline, lines_of, whole_lines_of}
+use Rattle.bench_io.specs.declared.limits.TheConstants.{LONGEST_LINE}
 use Rattle.bench_io.specs.Reading.{Reading, ReadsLine}
 use Rattle.bench_io.specs.declared.lines.Line.{Line}
 use Rattle.bench_io.specs.declared.lines.Line.TheVariants.{Text, TooLong, End}
@@ -25,12 +26,13 @@ IsSpent reader left = reader.has_ended ≡ true → left ≡ []
 -- A line that is answered is the first of the lines that were there, and the others are still there. At the end there
 -- was none.
 abbrev pub GivesFirst : (old new : Reading) (left_before left_now : List ℕ) → Result Line ReadStop → Type 0
-GivesFirst old new left_before left_now (Ok (Text line)) = (length line.now ≤ LONGEST) × (lines_in old left_before ≡ line.now ∷ lines_in new left_now) × IsSpent new left_now
-GivesFirst old new left_before left_now (Ok TooLong) = (line : List ℕ) × (LONGEST < length line) × (lines_in old left_before ≡ line ∷ lines_in new left_now) × IsSpent new left_now
+GivesFirst old new left_before left_now (Ok (Text line)) = (length line.now ≤ LONGEST_LINE) × (lines_in old left_before ≡ line.now ∷ lines_in new left_now) × IsSpent new left_now
+GivesFirst old new left_before left_now (Ok TooLong) = (line : List ℕ) × (LONGEST_LINE < length line) × (lines_in old left_before ≡ line ∷ lines_in new left_now) × IsSpent new left_now
 GivesFirst old new left_before left_now (Ok End) = lines_in old left_before ≡ []
 GivesFirst old new left_before left_now (Err stop) = Unit {0}
 
 -- Each call of a reader over a source that tells its bytes gives the first of the lines that are left.
 abbrev pub CallsGiveFirst : Type 0
 CallsGiveFirst = (old new : Reading) (left_before left_now : List ℕ) (faults_before faults_now : ℕ) (result : Result Line ReadStop) → IsSpent old left_before
-    → ReadsLine old new (Some left_before) (Some left_now) faults_before faults_now result → GivesFirst old new left_before left_now result
+    → ReadsLine old new (record { bytes = Some left_before; faults = faults_before }) (record { bytes = Some left_now; faults = faults_now }) result
+    → GivesFirst old new left_before left_now result

@@ -1,40 +1,17 @@
 -- What lists, rounds and kept sets decide.
-use Rattle.std.proofs.Common.{◌≡◌, ℕ, zero, suc, ◌⊎◌, inl, inr, true, false, true≢false, refl, sym, subst, ◌∙◌, List, [], ◌∷◌}
+use Rattle.std.proofs.Common.{ℕ, zero, suc, inl, inr}
 use Rattle.circuit_model.specs.declared.model.Fact.{Fact}
 use Rattle.circuit_model.specs.declared.model.Assumption.{Assumption}
 use Rattle.circuit_model.specs.Closure.{Holds, ClashesAt, Clashes}
-use Rattle.environment_sets.specs.Sets.{Set, ◌⊆◌, IsBelow, is_within}
 use Rattle.environment_sets.specs.Lists.{IsIn}
-use Rattle.environment_sets.proofs.Within.{within_holds, holds_within}
 use Rattle.circuit_model.specs.Stock.{IsChosen, Has, IsRefutedBy}
-use Rattle.circuit_model.specs.Settled.{IsCovered}
+use Rattle.environment_sets.specs.Families.{IsCovered}
 use Rattle.circuit_model.specs.Decided.{ListedLabelsDecide, ListedNogoodsDecide, SettledListsAreExact, LastRoundsAreClosures, LastRoundsDecideClashes}
 use Rattle.circuit_model.proofs.Monotony.{AreTwoWords-map, IsForced-map, IsRefuted-map, Has-more, IsRefutedBy-more}
 use Rattle.circuit_model.proofs.Reiter.{not_without_least}
 use Rattle.circuit_model.proofs.Listed as listed
+use Rattle.circuit_model.proofs.Listed.{decide_covered}
 use Rattle.circuit_model.proofs.Settled as settled
-
-decide_subset : (n : ℕ) (E F : Set ℕ) → IsBelow n E → (E ⊆ F) ⊎ (E ⊆ F → ⊥)
-decide_subset n E F low =
-    elim (is_within n E F) as (λ b. is_within n E F ≡ b → (E ⊆ F) ⊎ (E ⊆ F → ⊥)) [
-      | true ↦ λ yes. inl (within_holds n E F low yes)
-      | false ↦ λ no. inr (λ within. true≢false (sym (holds_within n E F within) ∙ no))
-    ] refl
-
--- either a listed set is a subset, or none is
-decide_covered : (n : ℕ) (E : Set ℕ) (xs : List (Set ℕ)) → ((m : Set ℕ) → IsIn xs m → IsBelow n m) → IsCovered (IsIn xs) E ⊎ (IsCovered (IsIn xs) E → ⊥)
-decide_covered n E [] low = inr (λ c. c.1)
-decide_covered n E (x ∷ xs) low =
-    elim (decide_subset n x E (low x (inl refl))) [
-      | inl within ↦ inl (x, inl refl, within)
-      | inr out ↦ elim (decide_covered n E xs (λ m h. low m (inr h))) [
-        | inl c ↦ inl (c.0, inr c.1, c.2)
-        | inr none ↦ inr (λ c. elim c.1 [
-          | inl e ↦ out (let P : Set ℕ → Type 0 = λ s. s ⊆ E in subst P (sym e) c.2)
-          | inr later ↦ none (c.0, later, c.2)
-        ])
-      ]
-    ]
 
 pub listed_labels_decide : ListedLabelsDecide
 listed_labels_decide n S names f xs exact E env fine = (

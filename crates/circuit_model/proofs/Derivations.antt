@@ -1,29 +1,17 @@
 -- Valid derivations are true, and canonical ones are valid.
 use Rattle.std.proofs.Common.{◌≡◌, ℕ, zero, suc, ◌<◌, ◌≤◌, ◌⊎◌, inl, inr, refl, sym, ap, ap₂, subst, ◌∙◌, List, [], ◌∷◌, map, Option, Some, None, slice_get, arith}
-use Rattle.std.specs.List.{Contains}
 use Rattle.std.specs.Option.{option_map}
-use Rattle.std.proofs.lemmas.Option.{slice_get_within, get_or_from_slice_get}
-use Rattle.std.proofs.lemmas.List.Elements.{Contains-get_or}
 use Rattle.circuit_model.specs.declared.model.Cell.{Cell}
 use Rattle.circuit_model.specs.declared.model.Fact.{Fact}
-use Rattle.circuit_model.specs.declared.model.Instance.{Instance}
 use Rattle.circuit_model.specs.declared.model.Assumption.TheVariants.{Part}
 use Rattle.circuit_model.specs.Closure.{fact, AreHeld, IsForced, IsRefuted, Follows}
 use Rattle.environment_sets.specs.Sets.{Set}
 use Rattle.environment_sets.specs.Lists.{IsIn, IsRising}
+use Rattle.environment_sets.proofs.Membership.{IsIn-slice_get, map-IsIn}
 use Rattle.circuit_model.specs.Diagnoses.{Circuit, Place, AtPart}
 use Rattle.circuit_model.specs.Derivation.{Justification, by_instance, Step, Measured, Inferred, Ending, Holds, TwoValues, Refuted, Goal, Value, Clash, fact_of, facts_behind, facts_in_clash, facts_at, IsAssumed, HoldsAt, IsRoundOf, IsOfInstance, Justifies, JustifiesClash, IsSupport, AtStart, Behind, IsSooner, AreStepsTo, IsClashOf, IsValidStep, AreValidAfter, IsValidEnding, IsMet, ValidDerivationsAreTrue, CanonicalDerivationsAreValid}
 use Rattle.circuit_model.proofs.Monotony.{IsForced-map, IsRefuted-map}
 use Rattle.circuit_model.proofs.Rounds.{Follows-forced, Clashes-refuted, Clashes-two_words}
-
-Contains-slice_get : (part : List Instance) (k : ℕ) (i : Instance) → slice_get part k ≡ Some i → Contains part i
-Contains-slice_get part k i e =
-    let P : Instance → Type 0 = λ x. Contains part x in subst P (get_or_from_slice_get part k i i e) (Contains-get_or part k i (slice_get_within part k i e))
-
-IsIn-map : (steps : List Step) (s : Step) → IsIn steps s → IsIn (map fact_of steps) (fact_of s)
-IsIn-map [] s h = h
-IsIn-map (t ∷ steps) s (inl e) = inl (ap fact_of e)
-IsIn-map (t ∷ steps) s (inr h) = inr (IsIn-map steps s h)
 
 -- each known word with its cell is one of the facts
 IsIn-facts_at : (cells : List Cell) (known : List (Option ℕ)) (p v : ℕ) (c : Cell) → slice_get known p ≡ Some (Some v) → slice_get cells p ≡ Some c → IsIn (facts_at cells known) (fact c v)
@@ -40,7 +28,7 @@ module _ (P : Circuit) (E : Set Place) where
     part = i.part;
     assumed = record { name = AtPart j.part; chosen = i.assumed; named = ap (option_map Part) i.at_position };
     instance = s.instance;
-    of_part = Contains-slice_get i.part j.instance s.instance i.at_place;
+    of_part = IsIn-slice_get i.part j.instance s.instance i.at_place;
     known = s.known;
     from = s.held;
     port = s.port;
@@ -53,7 +41,7 @@ module _ (P : Circuit) (E : Set Place) where
     part = i.part;
     assumed = record { name = AtPart j.part; chosen = i.assumed; named = ap (option_map Part) i.at_position };
     instance = s.instance;
-    of_part = Contains-slice_get i.part j.instance s.instance i.at_place;
+    of_part = IsIn-slice_get i.part j.instance s.instance i.at_place;
     known = s.known;
     from = s.held;
     refutes = s.refutes;
@@ -154,7 +142,7 @@ module _ (P : Circuit) (E : Set Place) where
   shown facts steps a f h =
       let found : (s : Step) × IsIn steps s × (fact_of s ≡ f) = a.complete f (AtStart f h) in
       let Q : Fact → Type 0 = λ g. IsIn (map fact_of steps) g in
-      subst Q found.2 (IsIn-map steps found.0 found.1)
+      subst Q found.2 (map-IsIn fact_of steps found.0 found.1)
 
   clash_valid : (n : ℕ) (ending : Ending) (given : List Fact) → ((f : Fact) → IsIn (facts_in_clash ending) f → IsIn given f) → IsClashOf P E n ending → IsValidEnding P E given Clash ending
   clash_valid n Holds given in_given h = h

@@ -1,6 +1,7 @@
 -- Reiter's theorem for circuits.
 use Rattle.std.proofs.Common.{◌≡◌, ℕ, zero, suc, inl, inr, IsTrue, refl, sym, ap, ◌∙◌, List, length, Some, None}
 use Rattle.std.specs.Option.{option_map}
+use Rattle.std.proofs.lemmas.Option.{same_Some}
 use Rattle.circuit_model.specs.declared.model.Cell.{Cell}
 use Rattle.circuit_model.specs.declared.model.Fact.{Fact}
 use Rattle.circuit_model.specs.declared.model.Instance.{Instance}
@@ -52,9 +53,6 @@ module _ (A : Assumption → Type 0) (none : (part : List Instance) → A (Part 
   only_readings (suc n) f (inl h) = only_readings n f h
   only_readings (suc n) f (inr h) = absurd (none _ h.assumed)
 
-Some-injective : {A : Type 0} {x y : A} → Some x ≡ Some y → x ≡ y
-Some-injective e = cc
-
 Reading-injective : {f g : Fact} → Some (Reading f) ≡ Some (Reading g) → f ≡ g
 Reading-injective e = cc
 
@@ -91,5 +89,5 @@ readings_are_consistent P C empty (n, inl two) =
     let A : Assumption → Type 0 = IsChosen (stock_of P) (with_readings P C) in
     let low = chosen_reading P C empty two.cell two.low (only_readings A (chosen_part P C empty) n _ two.low_holds) in
     let high = chosen_reading P C empty two.cell two.high (only_readings A (chosen_part P C empty) n _ two.high_holds) in
-    two.differ (Some-injective (sym low ∙ high))
+    two.differ (same_Some two.low two.high (sym low ∙ high))
 readings_are_consistent P C empty (n, inr refuted) = chosen_part P C empty _ refuted.assumed

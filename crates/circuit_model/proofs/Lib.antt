@@ -1,3 +1,5 @@
+pub mod Cells
+pub mod Inferences
 pub mod Monotony
 pub mod Rounds
 pub mod Paddings

@@ -6,7 +6,8 @@ use Rattle.std.proofs.lemmas.Slice.Eq.{bytes_eq-Decides}
 use Rattle.std.proofs.lemmas.List.{length-append, length-drop, take_at, drop_at, drop-replicate}
 use Rattle.std.specs.Prelude.{replicate}
 use Rattle.std.specs.Str.{bytes_eq}
-use Rattle.circuit_model.specs.Names.{LONGEST_NAME, is_name}
+use Rattle.circuit_model.specs.Names.{is_name}
+use Rattle.circuit_model.specs.declared.limits.TheConstants.{LONGEST_NAME}
 use Rattle.circuit_model.specs.Padding.{padded, IsPadded}
 
 pub is_name-fits : (name : List ℕ) → IsTrue (is_name name) → length name ≤ LONGEST_NAME

@@ -1,5 +1,5 @@
 -- What a further net, component or measurement keeps of a lawful present.
-use Rattle.std.proofs.Common.{◌≡◌, ℕ, suc, ◌+◌, ◌-◌, ◌*◌, ◌^◌, ◌<◌, ◌≤◌, ◌⊎◌, inl, inr, Bool, false, cond, not, ltb, List, [], ◌∷◌, ◌++◌, length, map, take, drop, Option, Some, None, IsTrue, refl, sym, ap, subst, ◌∙◌, arith}
+use Rattle.std.proofs.Common.{◌≡◌, ℕ, suc, ◌+◌, ◌-◌, ◌*◌, ◌^◌, ◌<◌, ◌≤◌, inl, inr, Bool, false, cond, not, ltb, List, [], ◌∷◌, ◌++◌, length, map, take, drop, Option, Some, None, IsTrue, refl, sym, ap, subst, ◌∙◌, arith}
 use Rattle.std.specs.Prelude.{slice_index}
 use Rattle.std.specs.List.{slice_get, All, position, prefix_len}
 use Rattle.std.specs.Str.{bytes_eq}
@@ -11,12 +11,15 @@ use Rattle.std.proofs.Math.Seq.{take-append_seam}
 use Rattle.std.proofs.lemmas.Option.{slice_get_within, get_or_from_slice_get}
 use Rattle.std.proofs.lemmas.List.Elements.{All-cons, All-head, All-tail, All-push, All-take, All-weaker}
 use Rattle.environment_sets.specs.Lists.{IsIn, AreDistinct}
+use Rattle.environment_sets.proofs.Membership.{IsIn-append, IsIn-map, AreDistinct-more, AreDistinct-left}
 use Rattle.circuit_model.specs.declared.model.Fact.{Fact}
 use Rattle.circuit_model.specs.declared.present.Component.{Component}
 use Rattle.circuit_model.specs.declared.present.Net.{Net}
 use Rattle.circuit_model.specs.Names.{is_name}
 use Rattle.circuit_model.specs.Kinds.{are_widths, fits_value, instances}
-use Rattle.circuit_model.specs.Present.{MOST_CYCLES, MOST_NETS, MOST_CELLS, MOST_PARTS, Setup, names_of, net_named, part_named, net_or_part, named_in, width_of, with_cycles, with_net, with_part, without_last_part, IsLawfulComponent, IsFactOf, IsLawful}
+use Rattle.circuit_model.specs.Present.{PresentView, names_of, net_named, part_named, net_or_part, named_in, width_of, with_cycles, with_net, with_part, without_last_part, IsLawfulComponent, IsFactOf, IsLawful}
+use Rattle.circuit_model.specs.declared.limits.TheConstants.{MOST_CYCLES, MOST_NETS, MOST_CELLS, MOST_PARTS}
+use Rattle.word_domain.specs.declared.width.TheConstants.{WIDEST}
 
 passed : (b : Bool) (i n : ℕ) → cond (ltb (cond (not b) (1 + i) 0) (suc n)) (Some (cond (not b) (1 + i) 0)) None ≡ None → (b ≡ false) × (cond (ltb i n) (Some i) None ≡ None)
 passed b i n h = (grind (arith, nat_tests), grind (arith, nat_tests))
@@ -28,35 +31,10 @@ module _ {X : Type 0} where
   position-None p (y ∷ xs) none x (inl e) = ap p (sym e) ∙ (passed (p y) (prefix_len (λ x. not (p x)) xs) (length xs) none).0
   position-None p (y ∷ xs) none x (inr later) = position-None p xs (passed (p y) (prefix_len (λ x. not (p x)) xs) (length xs) none).1 x later
 
-  pub IsIn-append : (xs ys : List X) (x : X) → IsIn (xs ++ ys) x → IsIn xs x ⊎ IsIn ys x
-  IsIn-append [] ys x h = inr h
-  IsIn-append (y ∷ xs) ys x (inl e) = inl (inl e)
-  IsIn-append (y ∷ xs) ys x (inr h) = elim (IsIn-append xs ys x h) as (λ _. IsIn (y ∷ xs) x ⊎ IsIn ys x) [ inl a ↦ inl (inr a) | inr b ↦ inr b ]
-
-  -- what stands in a list with one more element in it stood there or is that element
-  pub IsIn-more : (xs ys : List X) (z x : X) → IsIn ((xs ++ z ∷ []) ++ ys) x → (z ≡ x) ⊎ IsIn (xs ++ ys) x
-  IsIn-more [] ys z x h = h
-  IsIn-more (y ∷ xs) ys z x (inl e) = inr (inl e)
-  IsIn-more (y ∷ xs) ys z x (inr h) = elim (IsIn-more xs ys z x h) as (λ _. (z ≡ x) ⊎ IsIn (y ∷ (xs ++ ys)) x) [ inl a ↦ inl a | inr b ↦ inr (inr b) ]
-
-  -- a new element keeps the elements apart
-  pub AreDistinct-more : (xs ys : List X) (z : X) → AreDistinct (xs ++ ys) → (IsIn (xs ++ ys) z → ⊥) → AreDistinct ((xs ++ z ∷ []) ++ ys)
-  AreDistinct-more [] ys z apart new = ((λ y h e. new (subst (λ (w : X). IsIn ys w) (sym e) h)), apart)
-  AreDistinct-more (x ∷ xs) ys z apart new = (
-    (λ y h e. elim (IsIn-more xs ys z y h) as (λ _. ⊥) [ inl a ↦ new (inl (e ∙ sym a)) | inr b ↦ apart.0 y b e ]),
-    AreDistinct-more xs ys z apart.1 (λ h. new (inr h)),
-  )
-
   -- a new element that has what each has
   pub All-more_between : (P : X → Type 0) (xs ys : List X) (z : X) → All P (xs ++ ys) → P z → All P ((xs ++ z ∷ []) ++ ys)
   All-more_between P [] ys z h p = All-cons P z ys p h
   All-more_between P (x ∷ xs) ys z h p = All-cons P x ((xs ++ z ∷ []) ++ ys) (All-head P x (xs ++ ys) h) (All-more_between P xs ys z (All-tail P x (xs ++ ys) h) p)
-
-module _ {X Y : Type 0} (f : X → Y) where
-  pub IsIn-map : (xs : List X) (y : Y) → IsIn (map f xs) y → (x : X) × IsIn xs x × (f x ≡ y)
-  IsIn-map [] y h = elim h [ ]
-  IsIn-map (x ∷ xs) y (inl e) = (x, inl refl, e)
-  IsIn-map (x ∷ xs) y (inr h) = let p = IsIn-map xs y h in (p.0, inr p.1, p.2)
 
 module _ {X : Type 0} (f g : ℕ → X) (n : ℕ) (agree : (k : ℕ) → k < n → f k ≡ g k) where
   map_agree : (xs : List ℕ) → All (λ k. k < n) xs → map f xs ≡ map g xs
@@ -72,7 +50,7 @@ not_named : (name other : List ℕ) → other ≡ name → bytes_eq other name �
 not_named name other e apart = false≢true (sym apart ∙ (bytes_eq-Decides other name).1 e)
 
 -- a free name is no name of a net or of a component
-pub free_is_new : (s : Setup) (name : List ℕ) → named_in s name ≡ None → IsIn (names_of s) name → ⊥
+pub free_is_new : (s : PresentView) (name : List ℕ) → named_in s name ≡ None → IsIn (names_of s) name → ⊥
 free_is_new s name free h =
     let nets : List (List ℕ) = map (λ (n : Net). n.name) s.nets in
     let parts : List (List ℕ) = map (λ (p : Component). p.name) s.parts in
@@ -83,13 +61,13 @@ free_is_new s name free h =
     ]
 
 -- the width of a net that was read
-pub width_of-read : (s : Setup) (net : ℕ) (n : Net) → slice_get s.nets net ≡ Some n → width_of s net ≡ n.width
+pub width_of-read : (s : PresentView) (net : ℕ) (n : Net) → slice_get s.nets net ≡ Some n → width_of s net ≡ n.width
 width_of-read s net n h =
     let w : Net → ℕ = λ n. n.width in
     let fits : net < length s.nets = slice_get_within s.nets net n h in
     get_or-map w s.nets net n 0 fits ∙ ap w (get_or_from_slice_get s.nets net n n h)
 
-module _ (n : Net) (s : Setup) where
+module _ (n : Net) (s : PresentView) where
   pub width_of-with_net : (k : ℕ) → k < length s.nets → width_of (with_net n s) k ≡ width_of s k
   width_of-with_net k h =
       let w : Net → ℕ = λ n. n.width in
@@ -120,7 +98,7 @@ module _ (n : Net) (s : Setup) where
   }
 
 -- a net with a free name keeps a present lawful
-pub IsLawful-with_net : (n : Net) (s : Setup) → IsLawful s → named_in s n.name ≡ None → length s.nets < MOST_NETS → (length s.nets + 1) * s.cycles ≤ MOST_CELLS → IsTrue (is_name n.name) → 1 ≤ n.width → n.width ≤ 32 → IsLawful (with_net n s)
+pub IsLawful-with_net : (n : Net) (s : PresentView) → IsLawful s → named_in s n.name ≡ None → length s.nets < MOST_NETS → (length s.nets + 1) * s.cycles ≤ MOST_CELLS → IsTrue (is_name n.name) → 1 ≤ n.width → n.width ≤ WIDEST → IsLawful (with_net n s)
 IsLawful-with_net n s h free room cells name low high =
     let more = length_push s.nets n in
     let nets : List (List ℕ) = map (λ (n : Net). n.name) s.nets in
@@ -135,13 +113,13 @@ IsLawful-with_net n s h free room cells name low high =
       readings = h.readings;
       names = subst (λ (ns : List (List ℕ)). All (λ n. IsTrue (is_name n)) ns) (sym names) (All-more_between (λ n. IsTrue (is_name n)) nets parts n.name h.names name);
       distinct = subst (λ (ns : List (List ℕ)). AreDistinct ns) (sym names) (AreDistinct-more nets parts n.name h.distinct (free_is_new s n.name free));
-      widths = All-push (λ (n : Net). (1 ≤ n.width) × (n.width ≤ 32)) s.nets n h.widths (low, high);
+      widths = All-push (λ (n : Net). (1 ≤ n.width) × (n.width ≤ WIDEST)) s.nets n h.widths (low, high);
       each_part = All-weaker (IsLawfulComponent s) (IsLawfulComponent (with_net n s)) (IsLawfulComponent-with_net n s) s.parts h.each_part;
       each_reading = All-weaker (IsFactOf s) (IsFactOf (with_net n s)) (IsFactOf-with_net n s) s.readings h.each_reading;
       rising = h.rising;
     }
 
-module _ (c : Component) (s : Setup) where
+module _ (c : Component) (s : PresentView) where
   pub IsLawfulComponent-with_part : (d : Component) → IsLawfulComponent s d → IsLawfulComponent (with_part c s) d
   IsLawfulComponent-with_part d h = record { three = h.three; nets = h.nets; unused = h.unused; widths = h.widths; value = h.value; part = h.part }
 
@@ -173,21 +151,11 @@ module _ (c : Component) (s : Setup) where
         rising = h.rising;
       }
 
-module _ {X : Type 0} where
-  in_front : (xs ys : List X) (x : X) → IsIn xs x → IsIn (xs ++ ys) x
-  in_front [] ys x h = absurd h
-  in_front (y ∷ xs) ys x (inl e) = inl e
-  in_front (y ∷ xs) ys x (inr h) = inr (in_front xs ys x h)
-
-  distinct_front : (xs ys : List X) → AreDistinct (xs ++ ys) → AreDistinct xs
-  distinct_front [] ys h = tt
-  distinct_front (x ∷ xs) ys h = (λ y i. h.0 y (in_front xs ys y i), distinct_front xs ys h.1)
-
-  all_front : (P : X → Type 0) (xs ys : List X) → All P (xs ++ ys) → All P xs
-  all_front P xs ys h = subst (All P) (take-append_seam xs ys) (All-take P (length xs) (xs ++ ys) h)
+all_front : {X : Type 0} (P : X → Type 0) (xs ys : List X) → All P (xs ++ ys) → All P xs
+all_front P xs ys h = subst (All P) (take-append_seam xs ys) (All-take P (length xs) (xs ++ ys) h)
 
 -- a present without its last component is lawful
-module _ (s : Setup) where
+module _ (s : PresentView) where
   component_without : (d : Component) → IsLawfulComponent s d → IsLawfulComponent (without_last_part s) d
   component_without d h = record { three = h.three; nets = h.nets; unused = h.unused; widths = h.widths; value = h.value; part = h.part }
 
@@ -210,7 +178,7 @@ module _ (s : Setup) where
         parts = let few : length (take n s.parts) ≤ length s.parts = omega (arith, length-take n s.parts) in omega (arith, few, h.parts);
         readings = h.readings;
         names = all_front (λ n. IsTrue (is_name n)) (nets ++ front) rest (subst (λ (ns : List (List ℕ)). All (λ n. IsTrue (is_name n)) ns) names h.names);
-        distinct = distinct_front (nets ++ front) rest (subst (λ (ns : List (List ℕ)). AreDistinct ns) names h.distinct);
+        distinct = AreDistinct-left (nets ++ front) rest (subst (λ (ns : List (List ℕ)). AreDistinct ns) names h.distinct);
         widths = h.widths;
         each_part = All-weaker (IsLawfulComponent s) (IsLawfulComponent (without_last_part s)) component_without (take n s.parts) (All-take (IsLawfulComponent s) n s.parts h.each_part);
         each_reading = All-weaker (IsFactOf s) (IsFactOf (without_last_part s)) fact_without s.readings h.each_reading;
@@ -218,7 +186,7 @@ module _ (s : Setup) where
       }
 
 -- where no nets are there, there are neither components nor measurements, and any lawful number of cycles will do
-module _ (n : ℕ) (s : Setup) (empty : length s.nets ≡ 0) where
+module _ (n : ℕ) (s : PresentView) (empty : length s.nets ≡ 0) where
   no_component : (c : Component) → IsLawfulComponent s c → IsLawfulComponent (with_cycles n s) c
   no_component c h = absurd (let low = h.nets 0 0 (omega (arith, h.three)) in omega (arith, low, empty))
 

@@ -1,27 +1,20 @@
 -- What a further measurement keeps.
-use Rattle.std.proofs.Common.{◌≡◌, ℕ, ◌+◌, ◌<◌, ◌⊎◌, inl, inr, Bool, true, false, cond, List, [], ◌∷◌, length, Option, Some, None, IsTrue, refl, ap, subst, ◌∙◌, arith}
+use Rattle.std.proofs.Common.{◌≡◌, ℕ, zero, suc, ◌+◌, ◌<◌, ◌⊎◌, inl, inr, Bool, true, false, cond, List, [], ◌∷◌, length, slice_get, Option, Some, None, IsTrue, refl, sym, ap, subst, ◌∙◌, arith}
 use Rattle.std.specs.List.{All}
-use Rattle.std.proofs.lemmas.Bool.{both_ways, cond_both}
-use Rattle.std.proofs.lemmas.Bool.Decides.{nat_tests}
+use Rattle.std.proofs.lemmas.Bool.{both_ways, cond_both, cond-true, cond-false}
+use Rattle.std.proofs.lemmas.Option.{slice_get_within, get_or_from_slice_get}
 use Rattle.std.proofs.lemmas.List.Elements.{All-cons, All-head, All-tail, All-weaker}
 use Rattle.environment_sets.specs.Lists.{IsIn, IsRising}
+use Rattle.environment_sets.proofs.Membership.{IsIn-slice_get}
 use Rattle.circuit_model.specs.declared.model.Cell.{Cell}
 use Rattle.circuit_model.specs.declared.model.Fact.{Fact}
-use Rattle.circuit_model.specs.Present.{MOST_READINGS, Setup, is_cell, is_cell_before, reading_in, with_reading, with_standing, IsLawfulComponent, IsFactOf, IsLawful}
+use Rattle.circuit_model.specs.Present.{PresentView, is_cell, is_cell_before, reading_in, with_reading, with_standing, IsLawfulComponent, IsFactOf, IsLawful}
+use Rattle.circuit_model.specs.declared.limits.TheConstants.{MOST_READINGS}
+use Rattle.circuit_model.proofs.Cells.{same_cell, same_cells, cell_itself, comes_after, not_before_itself, before_apart, before_trans}
 use Rattle.circuit_model.specs.declared.present.Component.{Component}
 
 abbrev pub ComesBefore : Fact → Fact → Type 0
 ComesBefore f g = IsTrue (is_cell_before f.cell g.cell)
-
-ComesBefore-trans : (f g h : Fact) → ComesBefore f g → ComesBefore g h → ComesBefore f h
-ComesBefore-trans f g h a b = grind (arith, nat_tests)
-
--- of two cells one comes first
-comes_after : (c d : Cell) → is_cell d c ≡ false → is_cell_before c d ≡ false → is_cell_before d c ≡ true
-comes_after c d a b = grind (arith, nat_tests)
-
-same_cells : (c d e : Cell) → is_cell c e ≡ true → is_cell d e ≡ true → is_cell c d ≡ true
-same_cells c d e a b = grind (arith, nat_tests)
 
 -- of two tests that do not both hold either may be made first
 either_first : {X : Type 0} (s t : Bool) (x y z : X) → (s ≡ true → t ≡ true → ⊥) → cond s x (cond t y z) ≡ cond t y (cond s x z)
@@ -63,7 +56,7 @@ IsRising-with_reading f (g ∷ readings) free h =
     (λ first. (
       (λ y at. elim at as (λ _. ComesBefore f y) [
         | inl e ↦ subst (λ (z : Fact). ComesBefore f z) e first
-        | inr later ↦ ComesBefore-trans f g y first (h.0 y later)
+        | inr later ↦ before_trans f.cell g.cell y.cell first (h.0 y later)
       ]),
       h,
     ))
@@ -85,7 +78,50 @@ reading_in-with_reading f (g ∷ readings) c free =
     (λ _. refl)
     (λ _. ap (λ o. cond (is_cell g.cell c) (Some g.value) o) rest ∙ either_first (is_cell g.cell c) (is_cell f.cell c) (Some g.value) (Some f.value) (reading_in readings c) (λ a b. both_ways (is_cell g.cell f.cell) apart.0 (same_cells g.cell f.cell c a b)))
 
-module _ (f : Fact) (s : Setup) where
+-- a word of the measurements, as one of them has it
+abbrev pub Measured : List Fact → Cell → ℕ → Type 0
+Measured readings c v = (k : ℕ) × (f : Fact) × (slice_get readings k ≡ Some f) × (f.cell ≡ c) × (f.value ≡ v)
+
+measured_first : (f : Fact) (readings : List Fact) (c : Cell) (v : ℕ) (b : Bool) → is_cell f.cell c ≡ b → cond b (Some f.value) (reading_in readings c) ≡ Some v → (reading_in readings c ≡ Some v → Measured readings c v) → Measured (f ∷ readings) c v
+measured_first f readings c v true is e rest = (0, f, refl, same_cell f.cell c is, cc)
+measured_first f readings c v false is e rest = let r : Measured readings c v = rest e in (suc r.0, r.1, r.2, r.3, r.4)
+
+-- a measured word is that of some measurement
+pub measured_at : (readings : List Fact) (c : Cell) (v : ℕ) → reading_in readings c ≡ Some v → Measured readings c v
+measured_at [] c v e = cc
+measured_at (f ∷ readings) c v e = measured_first f readings c v (is_cell f.cell c) refl e (λ h. measured_at readings c v h)
+
+-- measurements at two places are of two cells
+pub rising_apart : (readings : List Fact) → IsRising ComesBefore readings → (j k : ℕ) (f g : Fact) → j < k → slice_get readings j ≡ Some f → slice_get readings k ≡ Some g → f.cell ≡ g.cell → ⊥
+rising_apart [] rising j k f g low e h same = cc
+rising_apart (r ∷ readings) rising zero zero f g low e h same = absurd (omega arith)
+rising_apart (r ∷ readings) rising zero (suc k) f g low e h same =
+    let is : r ≡ f = cc in
+    let before : ComesBefore r g = rising.0 g (IsIn-slice_get readings k g h) in
+    let from_f : IsTrue (is_cell_before f.cell g.cell) = subst (λ (r : Fact). IsTrue (is_cell_before r.cell g.cell)) is before in
+    not_before_itself g.cell (subst (λ (c : Cell). IsTrue (is_cell_before c g.cell)) same from_f)
+rising_apart (r ∷ readings) rising (suc j) zero f g low e h same = absurd (omega arith)
+rising_apart (r ∷ readings) rising (suc j) (suc k) f g low e h same = rising_apart readings rising.1 j k f g (omega arith) e h same
+
+-- the word of a measurement is the measured word of its cell
+reading_in-rising : (readings : List Fact) → IsRising ComesBefore readings → (k : ℕ) (f : Fact) → slice_get readings k ≡ Some f → reading_in readings f.cell ≡ Some f.value
+reading_in-rising [] rising k f e = cc
+reading_in-rising (r ∷ readings) rising zero f e =
+    let is : r ≡ f = cc in
+    let here : reading_in (f ∷ readings) f.cell ≡ Some f.value = cond-true (is_cell f.cell f.cell) (Some f.value) (reading_in readings f.cell) (cell_itself f.cell) in
+    subst (λ (r : Fact). reading_in (r ∷ readings) f.cell ≡ Some f.value) (sym is) here
+reading_in-rising (r ∷ readings) rising (suc k) f e =
+    cond-false (is_cell r.cell f.cell) (Some r.value) (reading_in readings f.cell) (before_apart r.cell f.cell (rising.0 f (IsIn-slice_get readings k f e))) ∙ reading_in-rising readings rising.1 k f e
+
+module _ (s : PresentView) (lawful : IsLawful s) (k : ℕ) (f : Fact) (at : slice_get s.readings k ≡ Some f) where
+  -- each measurement is a fact of the present
+  pub IsFactOf-at : IsFactOf s f
+  IsFactOf-at = let P : Fact → Type 0 = λ f. IsFactOf s f in subst P (get_or_from_slice_get s.readings k f f at) (lawful.each_reading k f (slice_get_within s.readings k f at))
+
+  pub reading_in-at : reading_in s.readings f.cell ≡ Some f.value
+  reading_in-at = reading_in-rising s.readings lawful.rising k f at
+
+module _ (f : Fact) (s : PresentView) where
   IsLawfulComponent-with_standing : (c : Component) → IsLawfulComponent s c → IsLawfulComponent (with_standing f s) c
   IsLawfulComponent-with_standing c h = record { three = h.three; nets = h.nets; unused = h.unused; widths = h.widths; value = h.value; part = h.part }
 

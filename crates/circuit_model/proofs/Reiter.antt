@@ -1,38 +1,27 @@
 -- Diagnoses and minimal hitting sets.
-use Rattle.std.proofs.Common.{◌≡◌, ◌≢◌, ℕ, zero, suc, ◌<◌, Bool, true, false, not, ◌&&◌, ◌==◌, nat_lt, ◌⊎◌, inl, inr, IsTrue, true≢false, refl, sym, ap, subst, ◌∙◌, arith}
+use Rattle.std.proofs.Common.{◌≡◌, ◌≢◌, ℕ, zero, suc, ◌<◌, true, false, not, ◌&&◌, ◌==◌, nat_lt, ◌⊎◌, inl, inr, IsTrue, true≢false, refl, sym, ap, subst, ◌∙◌, arith}
+use Rattle.std.proofs.lemmas.Bool.{and_parts, and_from}
 use Rattle.std.proofs.lemmas.Bool.Decides.{nat_tests}
 use Rattle.environment_sets.specs.Sets.{Set, ◌⊆◌, IsMinimal, IsBelow, others, Hits, HitsEach, IsMinimalHittingSet}
 
 pub without : Set ℕ → ℕ → Set ℕ
 without E k j = E j && not (j == k)
 
-pub and_left : (a b : Bool) → IsTrue (a && b) → IsTrue a
-and_left true b h = refl
-and_left false b h = h
-
-pub and_right : (a b : Bool) → IsTrue (a && b) → IsTrue b
-and_right true b h = h
-and_right false b h = absurd (true≢false (sym h))
-
-and_both : (a b : Bool) → IsTrue a → IsTrue b → IsTrue (a && b)
-and_both true b p q = q
-and_both false b p q = p
-
 without_within : (E : Set ℕ) (k : ℕ) → without E k ⊆ E
 unfolding without
-without_within E k j h = and_left _ _ h
+without_within E k j h = (and_parts _ _ h).0
 
 not_without_itself : (E : Set ℕ) (k : ℕ) → IsTrue (without E k k) → ⊥
 unfolding without
-not_without_itself E k h = grind (arith, nat_tests, and_right (E k) (not (k == k)) h)
+not_without_itself E k h = grind (arith, nat_tests, (and_parts (E k) (not (k == k)) h).1)
 
 without_other : (E : Set ℕ) (k j : ℕ) → IsTrue (E j) → j ≢ k → IsTrue (without E k j)
 unfolding without
-without_other E k j h d = and_both (E j) (not (j == k)) h (grind (arith, nat_tests))
+without_other E k j h d = and_from (E j) (not (j == k)) h (grind (arith, nat_tests))
 
 without_more : (E F : Set ℕ) (k : ℕ) → E ⊆ F → without E k ⊆ without F k
 unfolding without
-without_more E F k within j h = and_both _ _ (within j (and_left _ _ h)) (and_right (E j) _ h)
+without_more E F k within j h = and_from _ _ (within j ((and_parts _ _ h).0)) ((and_parts (E j) _ h).1)
 
 below_split : (n k : ℕ) → k < suc n → (k < n) ⊎ (k ≡ n)
 below_split n k h = grind arith
@@ -80,10 +69,10 @@ module _ (Bad : Set ℕ → Type 0) (grows : (E F : Set ℕ) → E ⊆ F → Bad
       elim (find D C m) [
         | inl hit ↦ inl hit
         | inr none ↦ elim (D m && C m) as (λ b. (D m && C m) ≡ b → (Hits D C) ⊎ ((k : ℕ) → k < suc m → IsTrue (C k) → IsTrue (D k) → ⊥)) [
-          | true ↦ λ both. inl (m, and_left (D m) (C m) both, and_right (D m) (C m) both)
+          | true ↦ λ both. inl (m, (and_parts (D m) (C m) both).0, (and_parts (D m) (C m) both).1)
           | false ↦ λ out. inr (λ k low c d. elim (below_split m k low) [
             | inl lower ↦ none k lower c d
-            | inr same ↦ true≢false (sym (and_both (D m) (C m) (let P : ℕ → Type 0 = λ j. IsTrue (D j) in subst P same d) (let P : ℕ → Type 0 = λ j. IsTrue (C j) in subst P same c)) ∙ out)
+            | inr same ↦ true≢false (sym (and_from (D m) (C m) (let P : ℕ → Type 0 = λ j. IsTrue (D j) in subst P same d) (let P : ℕ → Type 0 = λ j. IsTrue (C j) in subst P same c)) ∙ out)
           ])
         ] refl
       ]
@@ -92,13 +81,13 @@ module _ (Bad : Set ℕ → Type 0) (grows : (E F : Set ℕ) → E ⊆ F → Bad
   IsSmallest C = IsBelow n C × IsMinimal Bad C
 
   pub others-low : (D : Set ℕ) → IsBelow n (others n D)
-  others-low D k h = grind (arith, nat_tests, and_left (nat_lt k n) (not (D k)) h)
+  others-low D k h = grind (arith, nat_tests, (and_parts (nat_lt k n) (not (D k)) h).0)
 
   pub in_others : (D : Set ℕ) (k : ℕ) → k < n → (IsTrue (D k) → ⊥) → IsTrue (others n D k)
-  in_others D k low out = and_both (nat_lt k n) (not (D k)) (grind (arith, nat_tests)) (elim (D k) as (λ b. D k ≡ b → IsTrue (not b)) [ true ↦ λ e. absurd (out e) | false ↦ λ _. refl ] refl)
+  in_others D k low out = and_from (nat_lt k n) (not (D k)) (grind (arith, nat_tests)) (elim (D k) as (λ b. D k ≡ b → IsTrue (not b)) [ true ↦ λ e. absurd (out e) | false ↦ λ _. refl ] refl)
 
   pub not_in_others : (D : Set ℕ) (k : ℕ) → IsTrue (others n D k) → IsTrue (D k) → ⊥
-  not_in_others D k h inside = true≢false (sym (and_right (nat_lt k n) (not (D k)) h) ∙ ap not inside)
+  not_in_others D k h inside = true≢false (sym ((and_parts (nat_lt k n) (not (D k)) h).1) ∙ ap not inside)
 
   -- where the others are consistent, each smallest clash is hit
   pub hits_of_consistent : (D : Set ℕ) → (Bad (others n D) → ⊥) → HitsEach IsSmallest D

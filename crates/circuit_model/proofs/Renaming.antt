@@ -1,5 +1,6 @@
 -- Labels and nogoods under other names.
 use Rattle.std.proofs.Common.{◌≡◌, Bool, IsTrue, true≢false, refl, sym, subst, ◌∙◌, Option, Some, None, IsSome}
+use Rattle.std.proofs.lemmas.Option.{same_Some}
 use Rattle.circuit_model.specs.declared.model.Fact.{Fact}
 use Rattle.circuit_model.specs.declared.model.Assumption.{Assumption}
 use Rattle.environment_sets.specs.Sets.{Set, ◌⊆◌, IsMinimal}
@@ -8,22 +9,21 @@ use Rattle.circuit_model.specs.Renaming.{passes, along, IsRenaming, RenamedClosu
 use Rattle.circuit_model.proofs.Settled.{same_set}
 use Rattle.circuit_model.proofs.Monotony.{Follows-map, Clashes-map}
 
-passes-elim : {A : Type 0} (p : A → Bool) (o : Option A) → IsTrue (passes p o) → (x : A) × (o ≡ Some x) × IsTrue (p x)
+-- a test that answers at a value
+pub passes-elim : {A : Type 0} (p : A → Bool) (o : Option A) → IsTrue (passes p o) → (x : A) × (o ≡ Some x) × IsTrue (p x)
 passes-elim p None h = absurd (true≢false (sym h))
 passes-elim p (Some x) h = (x, refl, h)
 
-passes-intro : {A : Type 0} (p : A → Bool) (o : Option A) (x : A) → o ≡ Some x → IsTrue (p x) → IsTrue (passes p o)
+pub passes-intro : {A : Type 0} (p : A → Bool) (o : Option A) (x : A) → o ≡ Some x → IsTrue (p x) → IsTrue (passes p o)
 passes-intro p o x e h = rw e h
 
-some_of : {A : Type 0} (o : Option A) → IsSome o → (x : A) × (o ≡ Some x)
+-- where there is a value, it is some
+pub some_of : {A : Type 0} (o : Option A) → IsSome o → (x : A) × (o ≡ Some x)
 some_of None h = absurd (true≢false (sym h))
 some_of (Some x) h = (x, refl)
 
-is_some_of : {A : Type 0} (o : Option A) (x : A) → o ≡ Some x → IsSome o
+pub is_some_of : {A : Type 0} (o : Option A) (x : A) → o ≡ Some x → IsSome o
 is_some_of o x e = rw e refl
-
-Some-injective : {A : Type 0} {x y : A} → Some x ≡ Some y → x ≡ y
-Some-injective e = cc
 
 turned : {N M : Type 0} (S : Stock N) (R : Stock M) (to : N → Option M) (back : M → Option N) → IsRenaming S R to back → IsRenaming R S back to
 turned S R to back r = record {
@@ -65,7 +65,7 @@ module _ {N M : Type 0} (S : Stock N) (R : Stock M) (to : N → Option M) (back 
   round_back E k h =
       let m : (m : M) × (to k ≡ Some m) × IsTrue (along back E m) = passes-elim (along back E) (to k) h in
       let j : (j : N) × (back m.0 ≡ Some j) × IsTrue (E j) = passes-elim E (back m.0) m.2 in
-      let e : j.0 ≡ k = Some-injective (sym j.1 ∙ r.there k m.0 m.1) in
+      let e : j.0 ≡ k = same_Some j.0 k (sym j.1 ∙ r.there k m.0 m.1) in
       let P : N → Type 0 = λ i. IsTrue (E i) in subst P e j.2
 
   along-more : (E F : Set N) → E ⊆ F → along back E ⊆ along back F

@@ -1,18 +1,15 @@
 -- Where nothing waits, what is kept is exact.
-use Rattle.std.proofs.Common.{◌≡◌, ℕ, zero, suc, ◌⊎◌, inl, inr, Bool, true, false, IsTrue, refl, sym, ap₂, subst, List, [], ◌∷◌, Option, Some, None, slice_get}
+use Rattle.std.proofs.Common.{◌≡◌, ℕ, zero, suc, ◌⊎◌, inl, inr, refl, ap₂, subst, List, [], ◌∷◌, Option, Some, None, slice_get}
 use mathlib.Core.Path.{fun_ext}
 use Rattle.circuit_model.specs.declared.model.Cell.{Cell}
 use Rattle.circuit_model.specs.declared.model.Fact.{Fact}
 use Rattle.circuit_model.specs.Closure.{fact, AreHeld, Holds}
 use Rattle.environment_sets.specs.Sets.{Set, ◌⊆◌}
+use Rattle.environment_sets.proofs.Membership.{same_bool}
 use Rattle.circuit_model.specs.Stock.{Stock, IsChosen, IsRefutedBy, IsInLabel, IsNogood}
-use Rattle.circuit_model.specs.Settled.{IsCovered, IsSettled, AreExact}
+use Rattle.environment_sets.specs.Families.{IsCovered}
+use Rattle.circuit_model.specs.Settled.{IsSettled, AreExact}
 use Rattle.circuit_model.proofs.Monotony.{IsRefutedBy-more}
-
-same_bool : (a b : Bool) → (IsTrue a → IsTrue b) → (IsTrue b → IsTrue a) → a ≡ b
-same_bool true b to from = sym (to refl)
-same_bool false true to from = from refl
-same_bool false false to from = refl
 
 -- either some port gives the way out, or each port gives the fact
 pub ports : (A : Type 0) (B : Fact → Type 0) (cells : List Cell) (known : List (Option ℕ)) → ((p v : ℕ) (c : Cell) → slice_get known p ≡ Some (Some v) → slice_get cells p ≡ Some c → B (fact c v) ⊎ A) → ((p v : ℕ) (c : Cell) → slice_get known p ≡ Some (Some v) → slice_get cells p ≡ Some c → B (fact c v)) ⊎ A

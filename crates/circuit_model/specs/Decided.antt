@@ -5,7 +5,8 @@ use Rattle.circuit_model.specs.Closure.{Holds, ClashesAt}
 use Rattle.environment_sets.specs.Sets.{Set}
 use Rattle.environment_sets.specs.Lists.{IsIn}
 use Rattle.circuit_model.specs.Stock.{Stock, IsChosen, IsEnvironment, Has, IsRefutedBy, IsInLabel, IsNogood}
-use Rattle.circuit_model.specs.Settled.{IsCovered, IsSettled, AreExact}
+use Rattle.environment_sets.specs.Families.{IsCovered}
+use Rattle.circuit_model.specs.Settled.{IsSettled, AreExact}
 
 -- each name of the stock is below n
 abbrev pub IsStockBelow : ℕ → Stock ℕ → Type 0

@@ -33,6 +33,7 @@ pub data Ending : Type 0 where
   TwoValues : Cell → (low high : ℕ) → Ending
   Refuted : (part instance ports : ℕ) → (from : List Fact) → Ending
 
+-- steps in order, and what they come to
 pub record Derivation : Type 0 where
   pub steps : List Step
   pub ending : Ending
@@ -42,9 +43,11 @@ pub data Goal : Type 0 where
   Value : Fact → Goal
   Clash : Goal
 
+-- the justification by this instance from these facts
 abbrev pub by_instance : (part instance ports : ℕ) → List Fact → Justification
 by_instance part instance ports from = record { part = part; instance = instance; ports = ports; from = from }
 
+-- the fact that the step shows
 abbrev pub fact_of : Step → Fact
 fact_of (Measured f) = f
 fact_of (Inferred f part instance ports from) = f
@@ -183,6 +186,7 @@ module _ (P : Circuit) (E : Set Place) where
     pub ending : IsClashOf round d.ending
     pub steps : AreStepsTo (facts_in_clash d.ending) d.steps
 
+  -- the one canonical derivation of the goal
   abbrev pub IsCanonical : Goal → Derivation → Type 0
   IsCanonical (Value f) d = IsCanonicalOfValue f d
   IsCanonical Clash d = IsCanonicalOfClash d
@@ -202,8 +206,11 @@ module _ (P : Circuit) (E : Set Place) where
   IsValidEnding shown (Value f) Holds = IsIn shown f
   IsValidEnding shown Clash (TwoValues c low high) = (low < high) × IsIn shown (fact c low) × IsIn shown (fact c high)
   IsValidEnding shown Clash (Refuted part instance ports from) = JustifiesClash (IsIn shown) (by_instance part instance ports from)
-  IsValidEnding shown _ _ = ⊥
+  IsValidEnding shown (Value f) (TwoValues c low high) = ⊥
+  IsValidEnding shown (Value f) (Refuted part instance ports from) = ⊥
+  IsValidEnding shown Clash Holds = ⊥
 
+  -- each step is valid, and the ending shows the goal
   pub record IsValid (goal : Goal) (d : Derivation) : Type 0 where
     pub steps : AreValidAfter [] d.steps
     pub ending : IsValidEnding (map fact_of d.steps) goal d.ending
@@ -217,5 +224,6 @@ module _ (P : Circuit) (E : Set Place) where
 abbrev pub ValidDerivationsAreTrue : Type 0
 ValidDerivationsAreTrue = (P : Circuit) (E : Set Place) (goal : Goal) (d : Derivation) → IsValid P E goal d → IsMet P E goal
 
+-- a canonical derivation is valid
 abbrev pub CanonicalDerivationsAreValid : Type 0
 CanonicalDerivationsAreValid = (P : Circuit) (E : Set Place) (goal : Goal) (d : Derivation) → IsCanonical P E goal d → IsValid P E goal d

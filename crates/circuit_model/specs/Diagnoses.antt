@@ -19,6 +19,7 @@ pub data Place : Type 0 where
   AtPart : ℕ → Place
   AtCell : Cell → Place
 
+-- each position is its component's part, each measured cell its measurement
 abbrev pub stock_of : Circuit → Stock Place
 stock_of P (AtPart i) = option_map Part (slice_get P.parts i)
 stock_of P (AtCell c) = option_map (λ v. Reading (fact c v)) (P.reading_at c)
@@ -32,6 +33,7 @@ with_readings P C (AtCell c) = is_some (P.reading_at c)
 abbrev pub AreRefuted : Circuit → Set ℕ → Type 0
 AreRefuted P C = IsRefutedBy (stock_of P) (with_readings P C)
 
+-- components that clash with the measurements, and fewer of them do not
 pub record IsConflict (P : Circuit) (C : Set ℕ) : Type 0 where
   pub positions : IsBelow (length P.parts) C
   pub minimal : IsMinimal (AreRefuted P) C
@@ -52,3 +54,7 @@ ReadingsAreConsistent = (P : Circuit) (C : Set ℕ) → ((k : ℕ) → IsTrue (C
 -- where the conflicts can be listed there is a diagnosis
 abbrev pub SomeDiagnosis : Type 0
 SomeDiagnosis = (P : Circuit) (xs : List (Set ℕ)) → ((C : Set ℕ) → IsIn xs C ↔ IsConflict P C) → (D : Set ℕ) × IsDiagnosis P D
+
+-- that a circuit has no diagnosis is impossible, with or without a listing
+abbrev pub NoCircuitLacksADiagnosis : Type 0
+NoCircuitLacksADiagnosis = (P : Circuit) → ((D : Set ℕ) → IsDiagnosis P D → ⊥) → ⊥

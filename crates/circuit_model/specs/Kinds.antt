@@ -7,40 +7,7 @@ use Rattle.circuit_model.specs.declared.model.Kind.{Kind}
 use Rattle.circuit_model.specs.declared.model.Kind.TheVariants.{Buf, Not, And, Or, Xor, Nand, Nor, Xnor, Add, Mul, Const, Reg}
 use Rattle.circuit_model.specs.declared.model.Instance.{Instance}
 use Rattle.circuit_model.specs.Inference.{ports_of}
-
--- the number of ports
-abbrev pub ports_of_kind : Kind → ℕ
-ports_of_kind Buf = 2
-ports_of_kind Not = 2
-ports_of_kind (Const value) = 1
-ports_of_kind (Reg reset) = 2
-ports_of_kind _ = 3
-
-abbrev pub are_equal : List ℕ → Bool
-are_equal widths = (slice_index widths 0 == slice_index widths 1) && (slice_index widths 1 == slice_index widths 2)
-
--- The ports' widths keep the kind's rule. (Lists of three: unused places repeat the last port.)
-abbrev pub are_widths : Kind → List ℕ → Bool
-are_widths (Const value) widths = true
-are_widths Mul widths = slice_index widths 2 == slice_index widths 0 + slice_index widths 1
-are_widths _ widths = are_equal widths
-
--- Of three places, those that are no port repeat the last port.
-abbrev pub RepeatsLast : {X : Type 0} → Kind → List X → Type 0
-RepeatsLast (Const value) xs = (slice_get xs 0 ≡ slice_get xs 1) × (slice_get xs 1 ≡ slice_get xs 2)
-RepeatsLast Buf xs = slice_get xs 1 ≡ slice_get xs 2
-RepeatsLast Not xs = slice_get xs 1 ≡ slice_get xs 2
-RepeatsLast (Reg reset) xs = slice_get xs 1 ≡ slice_get xs 2
-RepeatsLast _ xs = Unit {0}
-
--- the kind's value, if it has one, fits the width of its last port
-abbrev pub fits_value : Kind → List ℕ → Bool
-fits_value (Const value) widths = nat_lt value (2 ^ slice_index widths 0)
-fits_value (Reg reset) widths = nat_lt reset (2 ^ slice_index widths 1)
-fits_value _ widths = true
-
-abbrev pub cell_at : ℕ → ℕ → Cell
-cell_at cycle net = record { net = net; cycle = cycle }
+use Rattle.circuit_model.specs.Lawful.{WidthRule, AllTheSame, LastTheSum, RoomFor, width_rule}
 
 -- The relation that the words at the kind's ports have at each cycle; for a register, the one that carries its word on.
 abbrev pub primitive_of : Kind → Primitive
@@ -57,6 +24,53 @@ primitive_of Mul = prim.Mul
 primitive_of (Const value) = prim.Const value
 primitive_of (Reg reset) = prim.Buf
 
+-- three widths are the same
+abbrev pub are_equal : List ℕ → Bool
+are_equal widths = (slice_index widths 0 == slice_index widths 1) && (slice_index widths 1 == slice_index widths 2)
+
+-- the last of three widths is the sum of the others
+abbrev pub is_last_the_sum : List ℕ → Bool
+is_last_the_sum widths = slice_index widths 2 == slice_index widths 0 + slice_index widths 1
+
+-- three widths keep the rule, but for the room of a value
+abbrev pub keep_rule : WidthRule → List ℕ → Bool
+keep_rule AllTheSame widths = are_equal widths
+keep_rule LastTheSum widths = is_last_the_sum widths
+keep_rule (RoomFor value) widths = true
+
+-- The ports' widths keep the kind's rule. (Lists of three: unused places repeat the last port.)
+abbrev pub are_widths : Kind → List ℕ → Bool
+are_widths kind widths = keep_rule (width_rule (primitive_of kind)) widths
+
+-- of three places, those after so many repeat the last of these
+abbrev pub RepeatAfter : {X : Type 0} → ℕ → List X → Type 0
+RepeatAfter (suc zero) xs = (slice_get xs 0 ≡ slice_get xs 1) × (slice_get xs 1 ≡ slice_get xs 2)
+RepeatAfter (suc (suc zero)) xs = slice_get xs 1 ≡ slice_get xs 2
+RepeatAfter _ xs = Unit {0}
+
+-- Of three places, those that are no port repeat the last port.
+abbrev pub RepeatsLast : {X : Type 0} → Kind → List X → Type 0
+RepeatsLast kind xs = RepeatAfter (ports_of (primitive_of kind)) xs
+
+-- the kind's value, if it has one, fits the width of its last port
+abbrev pub fits_value : Kind → List ℕ → Bool
+fits_value Buf widths = true
+fits_value Not widths = true
+fits_value And widths = true
+fits_value Or widths = true
+fits_value Xor widths = true
+fits_value Nand widths = true
+fits_value Nor widths = true
+fits_value Xnor widths = true
+fits_value Add widths = true
+fits_value Mul widths = true
+fits_value (Const value) widths = nat_lt value (2 ^ slice_index widths 0)
+fits_value (Reg reset) widths = nat_lt reset (2 ^ slice_index widths 1)
+
+-- the cell of a net at a cycle
+abbrev pub cell_at : ℕ → ℕ → Cell
+cell_at cycle net = record { net = net; cycle = cycle }
+
 -- the relation at the nets' cells of a cycle
 abbrev pub instance_at : Primitive → (nets widths : List ℕ) → ℕ → Instance
 instance_at p nets widths cycle = record { prim = p; ports = ports_of p; cells = map (cell_at cycle) nets; widths = widths }
@@ -66,6 +80,7 @@ abbrev pub each_cycle : (ℕ → Instance) → ℕ → ℕ → List Instance
 each_cycle at cycle zero = []
 each_cycle at cycle (suc n) = at cycle ∷ each_cycle at (suc cycle) n
 
+-- at each of three places
 abbrev pub three_times : {X : Type 0} → X → List X
 three_times x = x ∷ x ∷ x ∷ []
 
@@ -79,11 +94,26 @@ abbrev pub carry_instance : (nets widths : List ℕ) → ℕ → Instance
 carry_instance nets widths cycle = let q = cell_at cycle (slice_index nets 1) in
     record { prim = prim.Buf; ports = 2; cells = cell_at (cycle - 1) (slice_index nets 0) ∷ q ∷ q ∷ []; widths = widths }
 
+-- the reset value at cycle 0, and then the word at d, one cycle later
 abbrev pub register : ℕ → (nets widths : List ℕ) → ℕ → List Instance
 register reset nets widths zero = []
 register reset nets widths (suc n) = reset_instance reset nets widths ∷ each_cycle (carry_instance nets widths) 1 n
 
+-- the kind's relation at each cycle
+abbrev pub at_each_cycle : Kind → (nets widths : List ℕ) → ℕ → List Instance
+at_each_cycle kind nets widths cycles = each_cycle (instance_at (primitive_of kind) nets widths) 0 cycles
+
 -- The instances that a component of the kind stands for, at nets of these widths, over so many cycles.
 abbrev pub instances : Kind → (nets widths : List ℕ) → ℕ → List Instance
+instances Buf nets widths cycles = at_each_cycle Buf nets widths cycles
+instances Not nets widths cycles = at_each_cycle Not nets widths cycles
+instances And nets widths cycles = at_each_cycle And nets widths cycles
+instances Or nets widths cycles = at_each_cycle Or nets widths cycles
+instances Xor nets widths cycles = at_each_cycle Xor nets widths cycles
+instances Nand nets widths cycles = at_each_cycle Nand nets widths cycles
+instances Nor nets widths cycles = at_each_cycle Nor nets widths cycles
+instances Xnor nets widths cycles = at_each_cycle Xnor nets widths cycles
+instances Add nets widths cycles = at_each_cycle Add nets widths cycles
+instances Mul nets widths cycles = at_each_cycle Mul nets widths cycles
+instances (Const value) nets widths cycles = at_each_cycle (Const value) nets widths cycles
 instances (Reg reset) nets widths cycles = register reset nets widths cycles
-instances kind nets widths cycles = each_cycle (instance_at (primitive_of kind) nets widths) 0 cycles

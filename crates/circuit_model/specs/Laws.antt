@@ -28,6 +28,7 @@ module _ (N : Type 0) where
   abbrev pub LabelsOfAPart : Type 0
   LabelsOfAPart = (S R : Stock N) → IsPartOf S R → (f : Fact) (E : Set N) → IsInLabel S f E ↔ (IsInLabel R f E × IsEnvironment S E)
 
+  -- so are the nogoods
   abbrev pub NogoodsOfAPart : Type 0
   NogoodsOfAPart = (S R : Stock N) → IsPartOf S R → (E : Set N) → IsNogood S E ↔ (IsNogood R E × IsEnvironment S E)
 
@@ -39,6 +40,7 @@ module _ (N : Type 0) where
   abbrev pub OneMoreForLabels : Type 0
   OneMoreForLabels = (S R : Stock N) (one : N) → HasOneMore S R one → (f : Fact) (E : Set N) → IsFalse (E one) → IsInLabel R f E ↔ IsInLabel S f E
 
+  -- and it is a nogood of both or of neither
   abbrev pub OneMoreForNogoods : Type 0
   OneMoreForNogoods = (S R : Stock N) (one : N) → HasOneMore S R one → (E : Set N) → IsFalse (E one) → IsNogood R E ↔ IsNogood S E
 

@@ -15,5 +15,6 @@ pub record IsLoad {N : Type 0} (S : Stock N) (n : ℕ) : Type 0 where
   pub count : n ≡ length pairs + length nogoods
 
 module _ (N : Type 0) where
+  -- a part of a stock has no larger load
   abbrev pub LoadsGrow : Type 0
   LoadsGrow = (S R : Stock N) → IsPartOf N S R → (m n : ℕ) → IsLoad S m → IsLoad R n → m ≤ n

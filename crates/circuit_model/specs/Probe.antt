@@ -1,25 +1,22 @@
 -- The best next measurement.
-use Rattle.std.specs.Prelude.{◌≡◌, ℕ, zero, suc, ◌+◌, ◌==◌, Bool, true, false, List, [], ◌∷◌, length, Option, Some, None, MatchOption, ◌*◌, ◌<◌, ◌≤◌, IsTrue}
-use Rattle.std.specs.List.{sum_by, count_by, AllZip}
+use Rattle.std.specs.Prelude.{◌≡◌, ℕ, ◌+◌, ◌==◌, Bool, true, false, List, length, Option, Some, None, MatchOption, ◌*◌, ◌<◌, ◌≤◌, IsTrue}
+use Rattle.std.specs.List.{range_with_len, sum_by, count_by, AllZip}
 use Rattle.circuit_model.specs.declared.model.Cell.{Cell}
 use Rattle.circuit_model.specs.Closure.{fact}
 use Rattle.environment_sets.specs.Sets.{Set, others}
 use Rattle.environment_sets.specs.Lists.{IsListing}
 use Rattle.environment_sets.specs.Orders.{ComesBefore}
 use Rattle.circuit_model.specs.Stock.{Has}
-use Rattle.circuit_model.specs.Present.{Setup, is_cell_before, reading_in, circuit_of}
+use Rattle.circuit_model.specs.Present.{PresentView, is_cell_before, reading_in, circuit_of}
 use Rattle.circuit_model.specs.Diagnoses.{Circuit, stock_of, with_readings, IsConflict, IsDiagnosis}
-
-abbrev pub up_to : ℕ → ℕ → List ℕ
-up_to from zero = []
-up_to from (suc n) = from ∷ up_to (suc from) n
 
 -- all diagnoses, in order
 abbrev pub AreDiagnoses : Circuit → List (Set ℕ) → Type 0
-AreDiagnoses P = IsListing (ComesBefore (up_to 0 (length P.parts))) (IsDiagnosis P)
+AreDiagnoses P = IsListing (ComesBefore (range_with_len 0 (length P.parts))) (IsDiagnosis P)
 
+-- all conflicts, in order
 abbrev pub AreConflicts : Circuit → List (Set ℕ) → Type 0
-AreConflicts P = IsListing (ComesBefore (up_to 0 (length P.parts))) (IsConflict P)
+AreConflicts P = IsListing (ComesBefore (range_with_len 0 (length P.parts))) (IsConflict P)
 
 -- without the parts of D the word follows at the cell
 abbrev pub Predicts : Circuit → Cell → Set ℕ → ℕ → Type 0
@@ -29,10 +26,12 @@ Predicts P c D v = Has (stock_of P) (fact c v) (with_readings P (others (length 
 abbrev pub IsPrediction : Circuit → Cell → Set ℕ → Option ℕ → Type 0
 IsPrediction P c D o = MatchOption o ((v : ℕ) → Predicts P c D v → ⊥) (Predicts P c D)
 
+-- the prediction is the word
 abbrev pub is_word : ℕ → Option ℕ → Bool
 is_word v None = false
 is_word v (Some w) = v == w
 
+-- nothing is predicted
 abbrev pub is_silent : Option ℕ → Bool
 is_silent None = true
 is_silent (Some w) = false
@@ -42,6 +41,7 @@ abbrev pub share : List (Option ℕ) → Option ℕ → ℕ
 share predictions None = length predictions
 share predictions (Some v) = count_by (is_word v) predictions + count_by is_silent predictions
 
+-- the shares of all predictions, added
 abbrev pub score : List (Option ℕ) → ℕ
 score predictions = sum_by (share predictions) predictions
 
@@ -54,7 +54,7 @@ pub record IsScore (P : Circuit) (c : Cell) (n : ℕ) : Type 0 where
   pub total : n ≡ score predictions
 
 -- a cell of the present at which nothing is measured
-pub record IsUnmeasured (s : Setup) (c : Cell) : Type 0 where
+pub record IsUnmeasured (s : PresentView) (c : Cell) : Type 0 where
   pub net : c.net < length s.nets
   pub cycle : c.cycle < s.cycles
   pub open_cell : reading_in s.readings c ≡ None
@@ -66,7 +66,7 @@ pub record IsTotal (P : Circuit) (n : ℕ) : Type 0 where
   pub squared : n ≡ length diagnoses * length diagnoses
 
 -- The best probe: an unmeasured cell that splits with the least score, the earlier one at a tie.
-pub record IsBestProbe (s : Setup) (c : Cell) (n total : ℕ) : Type 0 where
+pub record IsBestProbe (s : PresentView) (c : Cell) (n total : ℕ) : Type 0 where
   pub unmeasured : IsUnmeasured s c
   pub scored : IsScore (circuit_of s) c n
   pub totalled : IsTotal (circuit_of s) total

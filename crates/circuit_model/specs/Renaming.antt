@@ -23,14 +23,18 @@ module _ {N M : Type 0} where
     pub same : (k : N) (m : M) → to k ≡ Some m → S k ≡ R m
 
 module _ (N M : Type 0) where
+  -- the closure of an environment has a fact exactly where that of its renamed names has it
   abbrev pub RenamedClosures : Type 0
   RenamedClosures = (S : Stock N) (R : Stock M) (to : N → Option M) (back : M → Option N) → IsRenaming S R to back → (f : Fact) (E : Set N) → Has S f E ↔ Has R f (along back E)
 
+  -- an environment clashes exactly where its renamed names do
   abbrev pub RenamedClashes : Type 0
   RenamedClashes = (S : Stock N) (R : Stock M) (to : N → Option M) (back : M → Option N) → IsRenaming S R to back → (E : Set N) → IsRefutedBy S E ↔ IsRefutedBy R (along back E)
 
+  -- an environment is one of a label exactly where its renamed names are
   abbrev pub RenamedLabels : Type 0
   RenamedLabels = (S : Stock N) (R : Stock M) (to : N → Option M) (back : M → Option N) → IsRenaming S R to back → (f : Fact) (E : Set N) → IsEnvironment S E → IsInLabel S f E ↔ IsInLabel R f (along back E)
 
+  -- an environment is a nogood exactly where its renamed names are
   abbrev pub RenamedNogoods : Type 0
   RenamedNogoods = (S : Stock N) (R : Stock M) (to : N → Option M) (back : M → Option N) → IsRenaming S R to back → (E : Set N) → IsEnvironment S E → IsNogood S E ↔ IsNogood R (along back E)

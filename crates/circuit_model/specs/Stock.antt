@@ -5,6 +5,7 @@ use Rattle.circuit_model.specs.declared.model.Assumption.{Assumption}
 use Rattle.circuit_model.specs.Closure.{Follows, Clashes}
 use Rattle.environment_sets.specs.Sets.{Set, IsMinimal}
 
+-- what each name stands for, if it stands for anything
 abbrev pub Stock : Type 0 → Type 0
 Stock N = N → Option Assumption
 
@@ -27,6 +28,7 @@ module _ {N : Type 0} where
   abbrev pub Has : Stock N → Fact → Set N → Type 0
   Has S f E = Follows (IsChosen S E) f
 
+  -- the environment clashes
   abbrev pub IsRefutedBy : Stock N → Set N → Type 0
   IsRefutedBy S E = Clashes (IsChosen S E)
 
@@ -36,6 +38,7 @@ module _ {N : Type 0} where
     pub consistent : IsRefutedBy S E → ⊥
     pub minimal : IsMinimal (Has S f) E
 
+  -- an environment that clashes, and no smaller one does
   pub record IsNogood (S : Stock N) (E : Set N) : Type 0 where
     pub environment : IsEnvironment S E
     pub minimal : IsMinimal (IsRefutedBy S) E

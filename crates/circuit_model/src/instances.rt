@@ -3,15 +3,15 @@
 ghost use Rattle.std.specs.Prelude.{◌≡◌, ◌≤◌, map, IfOk, IsTrue};
 ghost use Rattle.circuit_model.specs.Inference.{ports_of};
 ghost use Rattle.circuit_model.specs.Kinds.{primitive_of, are_widths, fits_value, instance_at, each_cycle, reset_instance, carry_instance, register, instances};
-ghost use Rattle.circuit_model.specs.Present.{MOST_CYCLES};
+ghost use Rattle.circuit_model.specs.declared.limits.TheConstants.{MOST_CYCLES};
 
 use crate::model::{Cell, Instance, Kind, Part, Primitive};
 use std::alloc::{AllocError, Global};
 use word_domain::Width;
 
 /// The instances that a component of the kind stands for over so many cycles, at these nets of these widths, both in the
-/// order of the kind's ports. Unused places of `nets` and of `widths` repeat the last port's. A refusal leaves nothing
-/// behind.
+/// order of the kind's ports. Unused places of `nets` and of `widths` repeat the last port's. Where memory is wanting it
+/// leaves nothing behind.
 pub fn instances_of(
     alloc: Global,
     kind: Kind,
@@ -41,7 +41,17 @@ fn all_instances(
 {
     match kind {
         Kind::Reg { reset } => register(alloc, reset, nets, widths, cycles),
-        _ => each_cycle(alloc, kind.primitive(), nets, widths, cycles),
+        Kind::Buf
+        | Kind::Not
+        | Kind::And
+        | Kind::Or
+        | Kind::Xor
+        | Kind::Nand
+        | Kind::Nor
+        | Kind::Xnor
+        | Kind::Add
+        | Kind::Mul
+        | Kind::Const { .. } => each_cycle(alloc, kind.primitive(), nets, widths, cycles),
     }
 }
 
@@ -157,7 +167,14 @@ impl Primitive {
         match self {
             Primitive::Const { .. } => 1,
             Primitive::Buf | Primitive::Not => 2,
-            _ => 3,
+            Primitive::And
+            | Primitive::Or
+            | Primitive::Xor
+            | Primitive::Nand
+            | Primitive::Nor
+            | Primitive::Xnor
+            | Primitive::Add
+            | Primitive::Mul => 3,
         }
     }
 }

@@ -2,7 +2,7 @@
 
 ghost use Rattle.circuit_model.specs.Decided.{ListedLabelsDecide, ListedNogoodsDecide, SettledListsAreExact, LastRoundsAreClosures, LastRoundsDecideClashes};
 ghost use Rattle.circuit_model.specs.Derivation.{ValidDerivationsAreTrue, CanonicalDerivationsAreValid};
-ghost use Rattle.circuit_model.specs.Diagnoses.{DiagnosesAreHittingSets, SomeDiagnosis, ReadingsAreConsistent};
+ghost use Rattle.circuit_model.specs.Diagnoses.{DiagnosesAreHittingSets, SomeDiagnosis, NoCircuitLacksADiagnosis, ReadingsAreConsistent};
 ghost use Rattle.circuit_model.specs.Laws.{ClosuresGrow, SubsetsAreConsistent, ClosuresAreClosed, LabelsOfAPart, NogoodsOfAPart, OneMoreForLabels, OneMoreForNogoods, ListedLabelsCover};
 ghost use Rattle.circuit_model.specs.Load.{LoadsGrow};
 ghost use Rattle.circuit_model.specs.Printed.{PrintedLabelsAreUnique};
@@ -119,6 +119,12 @@ pub fn readings_are_consistent()
 /// Where the conflicts can be listed there is a diagnosis.
 pub fn there_is_a_diagnosis()
     ensures { SomeDiagnosis }
+{}
+
+/// That a circuit has no diagnosis is impossible. (Without a listing of the conflicts the logic, which is constructive,
+/// gives no more.)
+pub fn no_circuit_lacks_a_diagnosis()
+    ensures { NoCircuitLacksADiagnosis }
 {}
 
 /// The score of some predictions is below the square of their number exactly where two of them are different words.

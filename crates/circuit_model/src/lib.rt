@@ -8,8 +8,6 @@ mod model;
 mod name;
 mod present;
 mod rules;
-#[cfg(test)]
-mod tests;
 
 pub use instances::instances_of;
 pub use laws::{
@@ -18,7 +16,7 @@ pub use laws::{
     fewer_assumptions_close_less, fewer_assumptions_have_no_larger_load, forced_facts_follow,
     labels_are_the_same_under_other_names, labels_of_fewer_assumptions,
     labels_with_one_more_assumption, last_rounds_are_closures, last_rounds_decide_clashes,
-    listed_labels_cover, listed_labels_decide, listed_nogoods_decide,
+    listed_labels_cover, listed_labels_decide, listed_nogoods_decide, no_circuit_lacks_a_diagnosis,
     nogoods_are_the_same_under_other_names, nogoods_of_fewer_assumptions,
     nogoods_with_one_more_assumption, part_of_a_consistent_environment, printed_labels_are_unique,
     readings_are_consistent, settled_lists_are_exact, there_is_a_diagnosis, two_predictions_split,

@@ -1,27 +1,42 @@
 // Words, cells, facts and assumptions.
 
 ghost use Rattle.std.specs.Prelude.{◌≡◌, ◌<◌, length, slice_get, Some, IfOk};
-ghost use Rattle.circuit_model.specs.Lawful.{IsLawful, AreLawful};
+ghost use Rattle.circuit_model.specs.Lawful.{IsLawfulInstance, AreLawful};
 
 use std::alloc::{AllocError, Global};
 use std::marker::Model;
 use word_domain::Width;
 
-/// A net, by its place in order of declaration, at a cycle, counted from 0. Cells go by net, then by cycle.
+/// A net, by its place in order of declaration, at a cycle, both counted from 0. Cells go by net, then by cycle. Those of
+/// a present have a net below [`MOST_NETS`](crate::limits::MOST_NETS) and a cycle below
+/// [`MOST_CYCLES`](crate::limits::MOST_CYCLES).
 #[derive(Clone, Copy, PartialEq, Eq, PartialOrd, Ord, Debug)]
 pub struct Cell {
     pub net: u16,
     pub cycle: u8,
 }
 
-/// A word at a cell. The word is below two to the width of the cell's net, which is at most 32.
+impl Cell {
+    ghost use Rattle.circuit_model.specs.Present.{is_cell_before};
+
+    /// Whether it comes before the other one: by net, then by cycle.
+    pub fn comes_before(self, other: Cell) -> bool
+        ensures { result ≡ is_cell_before self other }
+    {
+        self < other
+    }
+}
+
+/// A word at a cell. Those of a present have a word below two to the width of the cell's net, which is at most
+/// [`WIDEST`](word_domain::WIDEST).
 #[derive(Clone, Copy, PartialEq, Eq, Debug)]
 pub struct Fact {
     pub cell: Cell,
     pub value: u64,
 }
 
-/// A kind of relation between the words at ports.
+/// A kind of relation between the words at ports: the last port's word is given by the others, and `Const` gives its
+/// value to its one port.
 #[derive(Clone, Copy, PartialEq, Eq, Debug)]
 pub enum Primitive {
     Buf,
@@ -37,7 +52,8 @@ pub enum Primitive {
     Const { value: u64 },
 }
 
-/// A kind of component. `Const` has the value that it gives, and `Reg` the one that it holds at cycle 0.
+/// A kind of component. `Const` has the value that it gives, and `Reg` the one that it holds at cycle 0; either is below
+/// two to the width of the component's last port.
 #[derive(Clone, Copy, PartialEq, Eq, Debug)]
 pub enum Kind {
     Buf,
@@ -64,8 +80,9 @@ pub struct Instance {
     pub widths: [Width; 3],
 }
 
-/// The relations that a component stands for, in order of cycles. Contracts see it as their list. Each one is lawful:
-/// `ports` is the number of ports of its relation, its widths go together, and the value of a constant fits.
+/// The relations that a component stands for, in order of cycles, one for each cycle. Contracts see it as their list.
+/// Each one is lawful: `ports` is the number of ports of its relation, its widths go together, and the value of a
+/// constant fits.
 #[derive(Drop)]
 pub struct Part {
     instances: Vec<Instance>,
@@ -93,7 +110,7 @@ impl Part {
         Part { instances }
     }
 
-    /// The number of instances.
+    /// The number of instances, as many as there are cycles.
     pub fn len(&self) -> usize
         ensures { result ≡ length self.now }
     {
@@ -108,11 +125,11 @@ impl Part {
         Ok(Part { instances })
     }
 
-    /// An instance by its place, with what each instance of a part keeps.
+    /// An instance by its place, which is its cycle, with what each instance of a part keeps.
     pub fn at(&self, place: usize) -> &Instance
         requires { place < length self.now }
         ensures instance { slice_get self.now place ≡ Some result.now }
-        ensures lawful { IsLawful result.now }
+        ensures lawful { IsLawfulInstance result.now }
     {
         &self.instances[place]
     }

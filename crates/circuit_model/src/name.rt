@@ -7,8 +7,8 @@ ghost use Rattle.circuit_model.specs.Names.{begins_name, continues_name, is_name
 use crate::limits;
 use std::marker::Model;
 
-/// The name of a net or of a component: 1 to 32 bytes, the first a letter or `_`, each other one a letter, a digit or
-/// `_`. Contracts see it as its bytes.
+/// The name of a net or of a component: 1 to [`limits::LONGEST_NAME`] bytes, the first a letter or `_`, each other one a
+/// letter, a digit or `_`. Contracts see it as its bytes.
 #[derive(Clone, Copy, PartialEq, Eq, Hash, Debug)]
 pub struct Name {
     // the bytes, and zeros after them
@@ -46,7 +46,7 @@ impl Name {
         }
     }
 
-    /// Its bytes, 1 to 32 of them.
+    /// Its bytes, 1 to [`limits::LONGEST_NAME`] of them.
     pub fn bytes(&self) -> &[u8]
         ensures bytes { result.now ≡ self.now }
         ensures name { IsTrue (is_name self.now) }

@@ -4,7 +4,9 @@ ghost use Rattle.std.specs.Prelude.{◌≡◌, ◌≤◌, ◌<◌, ◌+◌, ◌*
 ghost use Rattle.std.specs.List.{insert, position};
 ghost use Rattle.std.specs.Str.{bytes_eq};
 ghost use Rattle.circuit_model.specs.Names.{is_name};
-ghost use Rattle.circuit_model.specs.Present.{MOST_CYCLES, MOST_NETS, MOST_CELLS, MOST_PARTS, MOST_READINGS, empty_setup, named_in, is_cell_before, reading_in, with_reading, with_cycles, with_net, with_part, without_last_part, with_standing, IsLawful, IsLawfulComponent, IsFactOf};
+ghost use Rattle.circuit_model.specs.Present.{empty_present, named_in, reading_in, with_reading, with_cycles, with_net, with_part, without_last_part, with_standing, IsLawful, IsLawfulComponent, IsFactOf};
+ghost use Rattle.circuit_model.specs.declared.limits.TheConstants.{MOST_CYCLES, MOST_NETS, MOST_CELLS, MOST_PARTS, MOST_READINGS};
+ghost use Rattle.word_domain.specs.declared.width.TheConstants.{WIDEST};
 
 use crate::limits;
 use crate::model::{Cell, Fact, Kind, Part};
@@ -51,21 +53,22 @@ pub struct Present {
 }
 
 impl Model for Present {
-    ghost use Rattle.circuit_model.specs.Present.{Setup};
+    ghost use Rattle.circuit_model.specs.Present.{PresentView};
 
-    ghost Value = { Setup };
+    ghost Value = { PresentView };
 
-    ghost use Rattle.circuit_model.specs.Kept.{setup_of, IsKept};
+    ghost use Rattle.circuit_model.specs.Kept.{view_of, IsKept};
 
-    ghost view = { setup_of };
+    ghost view = { view_of };
 
     ghost invariant = { IsKept };
 }
 
 impl Present {
-    /// One cycle, no nets, no components and no measurements. The room for all measurements is taken here.
+    /// One cycle, no nets, no components and no measurements. The room for all measurements is taken here; where memory is
+    /// wanting, nothing is left behind.
     pub fn open(alloc: Global) -> Result<Present, AllocError>
-        ensures { IfOk result (λ p. p ≡ empty_setup) }
+        ensures { IfOk result (λ p. p ≡ empty_present) }
     {
         Ok(Present {
             cycles: 1,
@@ -75,7 +78,7 @@ impl Present {
         })
     }
 
-    /// The number of cycles, 1 to 16.
+    /// The number of cycles, 1 to [`limits::MOST_CYCLES`].
     pub fn cycles(&self) -> u8
         ensures value { result ≡ self.now.cycles }
         ensures lawful { IsLawful self.now }
@@ -83,7 +86,7 @@ impl Present {
         self.cycles
     }
 
-    /// The number of nets, at most 256.
+    /// The number of nets, at most [`limits::MOST_NETS`].
     pub fn nets(&self) -> u16
         ensures value { result ≡ length self.now.nets }
         ensures lawful { IsLawful self.now }
@@ -91,7 +94,7 @@ impl Present {
         self.nets.len() as u16
     }
 
-    /// The name and the width of a net, by its place in order of declaration.
+    /// The name and the width of a net, by its place in order of declaration, counted from 0.
     pub fn net_at(&self, place: u16) -> (Name, Width)
         requires { place < length self.now.nets }
         ensures { slice_get self.now.nets place ≡ Some (record { name = result.0; width = result.1 }) }
@@ -100,7 +103,7 @@ impl Present {
         (net.name, net.width)
     }
 
-    /// What has the name: nets and components share one set of names.
+    /// What has the name, if anything: nets and components share one set of names.
     pub fn find(&self, name: &Name) -> Option<Named>
         ensures { result ≡ named_in self.now name.now }
     {
@@ -110,7 +113,7 @@ impl Present {
         }
     }
 
-    /// The number of components, at most 64.
+    /// The number of components, at most [`limits::MOST_PARTS`].
     pub fn parts(&self) -> u16
         ensures value { result ≡ length self.now.parts }
         ensures lawful { IsLawful self.now }
@@ -118,7 +121,7 @@ impl Present {
         self.parts.len() as u16
     }
 
-    /// A component by its place in order of declaration.
+    /// A component by its place in order of declaration, counted from 0.
     pub fn part_at(&self, place: u16) -> &Component
         requires { place < length self.now.parts }
         ensures { slice_get self.now.parts place ≡ Some result.now }
@@ -133,7 +136,7 @@ impl Present {
         reading_of(&self.readings, cell)
     }
 
-    /// The number of standing measurements, at most 64.
+    /// The number of standing measurements, at most [`limits::MOST_READINGS`].
     pub fn readings(&self) -> u16
         ensures value { result ≡ length self.now.readings }
         ensures lawful { IsLawful self.now }
@@ -141,7 +144,7 @@ impl Present {
         self.readings.len() as u16
     }
 
-    /// A standing measurement by its place in the order of cells.
+    /// A standing measurement by its place in the order of cells, counted from 0.
     pub fn reading(&self, place: u16) -> Fact
         requires { place < length self.now.readings }
         ensures { slice_get self.now.readings place ≡ Some result }
@@ -180,6 +183,7 @@ impl Present {
         ensures ok { OnOk result (self.new ≡ with_part component self.old) }
         ensures err { OnErr result (self.new ≡ self.old) }
     {
+        // For the proof alone: the bytes of a name are one.
         let _name = component.name.bytes();
         self.parts.push(component)?;
         Ok(())
@@ -214,8 +218,9 @@ impl Net {
         ensures net { result ≡ record { name = name; width = width } }
         ensures name { IsTrue (is_name name) }
         ensures low { 1 ≤ width }
-        ensures high { width ≤ 32 }
+        ensures high { width ≤ WIDEST }
     {
+        // For the proof alone: the bytes of a name are one, and a width is in its range.
         let _bytes = name.bytes();
         let _bits = width.bits();
         Net { name, width }
@@ -274,15 +279,9 @@ fn place_of(readings: &[Fact], fact: Fact) -> usize
     ensures place { insert readings.now result fact ≡ with_reading fact readings.now }
 {
     for (place, reading) in readings.iter().enumerate() {
-        if comes_before(fact.cell, reading.cell) {
+        if fact.cell.comes_before(reading.cell) {
             return place;
         }
     }
     readings.len()
-}
-
-fn comes_before(one: Cell, other: Cell) -> bool
-    ensures { result ≡ is_cell_before one other }
-{
-    one < other
 }

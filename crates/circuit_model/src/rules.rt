@@ -6,11 +6,18 @@ ghost use Rattle.circuit_model.specs.Kinds as rules;
 use crate::model::Kind;
 use word_domain::Width;
 
-// Each of the three widths is the same.
+// Whether the three widths are the same.
 fn are_equal(widths: &[Width; 3]) -> bool
     ensures { result ≡ rules.are_equal widths.now }
 {
     widths[0].bits() == widths[1].bits() && widths[1].bits() == widths[2].bits()
+}
+
+// Whether the last of the three widths is the sum of the others.
+fn is_last_the_sum(widths: &[Width; 3]) -> bool
+    ensures { result ≡ rules.is_last_the_sum widths.now }
+{
+    widths[2].bits() == widths[0].bits() + widths[1].bits()
 }
 
 /// Whether the widths of a component's ports keep its kind's rule. Unused places repeat the last port.
@@ -19,8 +26,17 @@ pub fn are_widths(kind: Kind, widths: &[Width; 3]) -> bool
 {
     match kind {
         Kind::Const { .. } => true,
-        Kind::Mul => widths[2].bits() == widths[0].bits() + widths[1].bits(),
-        _ => are_equal(widths),
+        Kind::Mul => is_last_the_sum(widths),
+        Kind::Buf
+        | Kind::Not
+        | Kind::And
+        | Kind::Or
+        | Kind::Xor
+        | Kind::Nand
+        | Kind::Nor
+        | Kind::Xnor
+        | Kind::Add
+        | Kind::Reg { .. } => are_equal(widths),
     }
 }
 
@@ -31,6 +47,15 @@ pub fn fits_value(kind: Kind, widths: &[Width; 3]) -> bool
     match kind {
         Kind::Const { value } => widths[0].fits(value),
         Kind::Reg { reset } => widths[1].fits(reset),
-        _ => true,
+        Kind::Buf
+        | Kind::Not
+        | Kind::And
+        | Kind::Or
+        | Kind::Xor
+        | Kind::Nand
+        | Kind::Nor
+        | Kind::Xnor
+        | Kind::Add
+        | Kind::Mul => true,
     }
 }

@@ -1,17 +1,13 @@
 -- Sums without their carry.
-use Rattle.std.proofs.Common.{◌≡◌, ℕ, ◌+◌, ◌-◌, ◌%◌, ◌^◌, ◌<◌, ◌≤◌, ◌⊎◌, false, ap, ◌∙◌, List, [], ◌∷◌, Option, IsNone, IfSome, arith, mod-eq_of_lt, pow_pos, add_comm}
+use Rattle.std.proofs.Common.{◌≡◌, ℕ, ◌+◌, ◌-◌, ◌%◌, ◌^◌, ◌<◌, ◌≤◌, ◌⊎◌, false, ap, ◌∙◌, [], ◌∷◌, Option, IsNone, IfSome, arith, mod-eq_of_lt, pow_pos, add_comm}
 use Rattle.std.proofs.Math.Nat.{add-mod-mod, mod-add-mod, add-mod_right}
 use Rattle.std.proofs.lemmas.Nat.{mod_below}
+use Rattle.word_domain.proofs.Masks.{sum-difference}
 use Rattle.circuit_model.specs.declared.model.Primitive.TheVariants.{Add}
-use Rattle.circuit_model.specs.Inference.{IsTuple, IsInference}
+use Rattle.circuit_model.specs.Inference.{IsInference}
 use Rattle.component_models.specs.Tables.{forced_by_two, sum_of, difference_of}
-use Rattle.component_models.proofs.Functions.{IsFunction}
+use Rattle.component_models.proofs.Functions.{three_words, IsFunction}
 use Rattle.component_models.proofs.Latin.{IsLatin, latin_is_exact}
-
-sum-difference : (m z a : ℕ) → z < m → a < m → (a + (z + (m - a)) % m) % m ≡ z
-sum-difference m z a p q =
-    let whole : a + (z + (m - a)) ≡ z + m = omega arith in
-    add-mod-mod a (z + (m - a)) m ∙ ap (λ k. k % m) whole ∙ add-mod_right z m ∙ mod-eq_of_lt p
 
 difference-sum : (m a b : ℕ) → a < m → b < m → ((a + b) % m + (m - a)) % m ≡ b
 difference-sum m a b p q =
@@ -23,14 +19,8 @@ module _ (w : ℕ) where
   adder = record {
     third_fits = λ a b p q. mod_below (a + b) (2 ^ w) (pow_pos w);
     tuple_of = λ a b z p q r e. record { fits = (p, (q, (r, tt))); relates = e };
-    by_words = shape;
-  } where
-    shape : (C : List ℕ → Type 0) → ((a b z : ℕ) → a < 2 ^ w → b < 2 ^ w → z < 2 ^ w → z ≡ sum_of w a b → C (a ∷ b ∷ z ∷ [])) → (t : List ℕ) → IsTuple Add (w ∷ w ∷ w ∷ []) t → C t
-    shape C here [] h = absurd h.relates
-    shape C here (a ∷ []) h = absurd h.relates
-    shape C here (a ∷ b ∷ []) h = absurd h.relates
-    shape C here (a ∷ b ∷ z ∷ []) h = here a b z h.fits.0 h.fits.1.0 h.fits.1.1.0 h.relates
-    shape C here (a ∷ b ∷ z ∷ x ∷ t) h = absurd h.relates
+    by_words = λ C here t h. three_words (λ w a b z. z ≡ (a + b) % 2 ^ w) w w w C here t h.fits h.relates;
+  }
 
   sums : IsLatin w (sum_of w) (difference_of w)
   sums = record {

@@ -6,7 +6,7 @@ use Rattle.std.proofs.lemmas.Nat.Bits.{bit_at_and, bit_at_xor, bit_at-lt, same_f
 use Rattle.circuit_model.specs.declared.model.Primitive.{Primitive}
 use Rattle.circuit_model.specs.declared.model.Primitive.TheVariants.{And, Or, Xor, Nand, Nor, Xnor}
 use Rattle.circuit_model.specs.Inference.{BitByBit, Relates, IsTuple}
-use Rattle.component_models.proofs.Functions.{IsFunction}
+use Rattle.component_models.proofs.Functions.{three_words, IsFunction}
 use Rattle.component_models.proofs.Complements.{complement_of, complement-lt, bit_at_complement}
 
 -- the tuples of the primitive are three words, whose bits go together
@@ -31,58 +31,22 @@ module _ (w : ℕ) where
   ws = w ∷ w ∷ w ∷ []
 
   ands : IsBitwise And w (λ x y. min x y)
-  ands = record { relates = λ a b z each. each; by_bits = words } where
-    words : (C : List ℕ → Type 0) → ((a b z : ℕ) → a < 2 ^ w → b < 2 ^ w → z < 2 ^ w → BitByBit (λ x y. min x y) w a b z → C (a ∷ b ∷ z ∷ [])) → (t : List ℕ) → IsTuple And ws t → C t
-    words C here [] h = absurd h.relates
-    words C here (a ∷ []) h = absurd h.relates
-    words C here (a ∷ b ∷ []) h = absurd h.relates
-    words C here (a ∷ b ∷ z ∷ []) h = here a b z h.fits.0 h.fits.1.0 h.fits.1.1.0 h.relates
-    words C here (a ∷ b ∷ z ∷ x ∷ t) h = absurd h.relates
+  ands = record { relates = λ a b z each. each; by_bits = λ C here t h. three_words (BitByBit (λ x y. min x y)) w w w C here t h.fits h.relates }
 
   ors : IsBitwise Or w (λ x y. max x y)
-  ors = record { relates = λ a b z each. each; by_bits = words } where
-    words : (C : List ℕ → Type 0) → ((a b z : ℕ) → a < 2 ^ w → b < 2 ^ w → z < 2 ^ w → BitByBit (λ x y. max x y) w a b z → C (a ∷ b ∷ z ∷ [])) → (t : List ℕ) → IsTuple Or ws t → C t
-    words C here [] h = absurd h.relates
-    words C here (a ∷ []) h = absurd h.relates
-    words C here (a ∷ b ∷ []) h = absurd h.relates
-    words C here (a ∷ b ∷ z ∷ []) h = here a b z h.fits.0 h.fits.1.0 h.fits.1.1.0 h.relates
-    words C here (a ∷ b ∷ z ∷ x ∷ t) h = absurd h.relates
+  ors = record { relates = λ a b z each. each; by_bits = λ C here t h. three_words (BitByBit (λ x y. max x y)) w w w C here t h.fits h.relates }
 
   xors : IsBitwise Xor w (λ x y. (x + y) % 2)
-  xors = record { relates = λ a b z each. each; by_bits = words } where
-    words : (C : List ℕ → Type 0) → ((a b z : ℕ) → a < 2 ^ w → b < 2 ^ w → z < 2 ^ w → BitByBit (λ x y. (x + y) % 2) w a b z → C (a ∷ b ∷ z ∷ [])) → (t : List ℕ) → IsTuple Xor ws t → C t
-    words C here [] h = absurd h.relates
-    words C here (a ∷ []) h = absurd h.relates
-    words C here (a ∷ b ∷ []) h = absurd h.relates
-    words C here (a ∷ b ∷ z ∷ []) h = here a b z h.fits.0 h.fits.1.0 h.fits.1.1.0 h.relates
-    words C here (a ∷ b ∷ z ∷ x ∷ t) h = absurd h.relates
+  xors = record { relates = λ a b z each. each; by_bits = λ C here t h. three_words (BitByBit (λ x y. (x + y) % 2)) w w w C here t h.fits h.relates }
 
   nands : IsBitwise Nand w (λ x y. 1 - min x y)
-  nands = record { relates = λ a b z each. each; by_bits = words } where
-    words : (C : List ℕ → Type 0) → ((a b z : ℕ) → a < 2 ^ w → b < 2 ^ w → z < 2 ^ w → BitByBit (λ x y. 1 - min x y) w a b z → C (a ∷ b ∷ z ∷ [])) → (t : List ℕ) → IsTuple Nand ws t → C t
-    words C here [] h = absurd h.relates
-    words C here (a ∷ []) h = absurd h.relates
-    words C here (a ∷ b ∷ []) h = absurd h.relates
-    words C here (a ∷ b ∷ z ∷ []) h = here a b z h.fits.0 h.fits.1.0 h.fits.1.1.0 h.relates
-    words C here (a ∷ b ∷ z ∷ x ∷ t) h = absurd h.relates
+  nands = record { relates = λ a b z each. each; by_bits = λ C here t h. three_words (BitByBit (λ x y. 1 - min x y)) w w w C here t h.fits h.relates }
 
   nors : IsBitwise Nor w (λ x y. 1 - max x y)
-  nors = record { relates = λ a b z each. each; by_bits = words } where
-    words : (C : List ℕ → Type 0) → ((a b z : ℕ) → a < 2 ^ w → b < 2 ^ w → z < 2 ^ w → BitByBit (λ x y. 1 - max x y) w a b z → C (a ∷ b ∷ z ∷ [])) → (t : List ℕ) → IsTuple Nor ws t → C t
-    words C here [] h = absurd h.relates
-    words C here (a ∷ []) h = absurd h.relates
-    words C here (a ∷ b ∷ []) h = absurd h.relates
-    words C here (a ∷ b ∷ z ∷ []) h = here a b z h.fits.0 h.fits.1.0 h.fits.1.1.0 h.relates
-    words C here (a ∷ b ∷ z ∷ x ∷ t) h = absurd h.relates
+  nors = record { relates = λ a b z each. each; by_bits = λ C here t h. three_words (BitByBit (λ x y. 1 - max x y)) w w w C here t h.fits h.relates }
 
   xnors : IsBitwise Xnor w (λ x y. 1 - (x + y) % 2)
-  xnors = record { relates = λ a b z each. each; by_bits = words } where
-    words : (C : List ℕ → Type 0) → ((a b z : ℕ) → a < 2 ^ w → b < 2 ^ w → z < 2 ^ w → BitByBit (λ x y. 1 - (x + y) % 2) w a b z → C (a ∷ b ∷ z ∷ [])) → (t : List ℕ) → IsTuple Xnor ws t → C t
-    words C here [] h = absurd h.relates
-    words C here (a ∷ []) h = absurd h.relates
-    words C here (a ∷ b ∷ []) h = absurd h.relates
-    words C here (a ∷ b ∷ z ∷ []) h = here a b z h.fits.0 h.fits.1.0 h.fits.1.1.0 h.relates
-    words C here (a ∷ b ∷ z ∷ x ∷ t) h = absurd h.relates
+  xnors = record { relates = λ a b z each. each; by_bits = λ C here t h. three_words (BitByBit (λ x y. 1 - (x + y) % 2)) w w w C here t h.fits h.relates }
 
   and-lt : (a b : ℕ) → a < 2 ^ w → bit_and a b < 2 ^ w
   and-lt a b p = omega (arith, and_le_l a b)

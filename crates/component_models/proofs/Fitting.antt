@@ -1,25 +1,16 @@
 -- Forced words fit, and are at three places.
 use Rattle.std.proofs.Common.{◌≡◌, ℕ, zero, suc, ◌^◌, ◌<◌, Bool, List, [], ◌∷◌, length, get_or, Option, Some, None, IfSome, slice_get, refl, ap, arith}
 use Rattle.circuit_model.specs.declared.model.Primitive.{Primitive}
-use Rattle.circuit_model.specs.Inference.{FitEach, IsInference}
+use Rattle.circuit_model.specs.Inference.{IsInference}
+use Rattle.circuit_model.proofs.Inferences.{FitEach-at}
 use Rattle.component_models.specs.Asking.{WordsFit}
-use Rattle.component_models.proofs.Ports.{Some-injective}
 
-fits_at : (widths t : List ℕ) (p w v : ℕ) → FitEach widths t → slice_get widths p ≡ Some w → slice_get t p ≡ Some v → v < 2 ^ w
-fits_at [] [] p w v h e f = cc
-fits_at [] (x ∷ t) p w v h e f = absurd h
-fits_at (u ∷ widths) [] p w v h e f = cc
-fits_at (u ∷ widths) (x ∷ t) zero w v h e f =
-    let same_width : u ≡ w = Some-injective e in
-    let same_word : x ≡ v = Some-injective f in
-    rw (← same_width, ← same_word) h.0
-fits_at (u ∷ widths) (x ∷ t) (suc p) w v h e f = fits_at widths t p w v h.1 e f
-
+-- a forced word is one of a tuple, and so it fits
 pub forced_words_fit : (prim : Primitive) (widths : List ℕ) (known : List (Option ℕ)) (refuted : Bool) (forced : List (Option ℕ)) → IsInference prim widths known refuted forced → WordsFit widths forced
 forced_words_fit prim widths known refuted forced i p w v e f =
     let forces = (i.forces_exactly p v).0 f in
     let some_tuple = forces.some_tuple in
-    fits_at widths some_tuple.0 p w v some_tuple.1.fits e (forces.every_tuple some_tuple.0 some_tuple.1 some_tuple.2)
+    FitEach-at widths some_tuple.0 p w v some_tuple.1.fits e (forces.every_tuple some_tuple.0 some_tuple.1 some_tuple.2)
 
 get_or_some : (xs : List (Option ℕ)) (p v : ℕ) → get_or xs p None ≡ Some v → slice_get xs p ≡ Some (Some v)
 get_or_some [] p v e = cc

@@ -1,9 +1,23 @@
--- Primitives of three ports, whose third word is a function of the first two.
+-- The words of tuples; primitives of three ports, whose third word is a function of the first two.
 use Rattle.std.proofs.Common.{◌≡◌, ◌≢◌, ℕ, ◌^◌, ◌<◌, sym, List, [], ◌∷◌, Some}
 use Rattle.std.proofs.Math.Nat.{suc-ne-zero}
+use Rattle.std.proofs.lemmas.Option.{same_Some}
 use Rattle.circuit_model.specs.declared.model.Primitive.{Primitive}
-use Rattle.circuit_model.specs.Inference.{IsTuple}
-use Rattle.component_models.proofs.Ports.{Some-injective}
+use Rattle.circuit_model.specs.Inference.{AreTwo, AreThree, FitEach, IsTuple}
+
+-- a tuple of a relation of two words is two words that fit, and one of three words is three
+pub two_words : (R : ℕ → ℕ → ℕ → Type 0) (wa wz : ℕ) (ws : List ℕ) (C : List ℕ → Type 0) → ((a z : ℕ) → a < 2 ^ wa → z < 2 ^ wz → R wa a z → C (a ∷ z ∷ [])) → (t : List ℕ) → FitEach (wa ∷ wz ∷ ws) t → AreTwo R (wa ∷ wz ∷ ws) t → C t
+two_words R wa wz ws C here (a ∷ z ∷ []) f h = here a z f.0 f.1.0 h
+two_words R wa wz ws C here [] f h = absurd h
+two_words R wa wz ws C here (a ∷ []) f h = absurd h
+two_words R wa wz ws C here (a ∷ z ∷ x ∷ t) f h = absurd h
+
+pub three_words : (R : ℕ → ℕ → ℕ → ℕ → Type 0) (wa wb wz : ℕ) (C : List ℕ → Type 0) → ((a b z : ℕ) → a < 2 ^ wa → b < 2 ^ wb → z < 2 ^ wz → R wa a b z → C (a ∷ b ∷ z ∷ [])) → (t : List ℕ) → FitEach (wa ∷ wb ∷ wz ∷ []) t → AreThree R (wa ∷ wb ∷ wz ∷ []) t → C t
+three_words R wa wb wz C here (a ∷ b ∷ z ∷ []) f h = here a b z f.0 f.1.0 f.1.1.0 h
+three_words R wa wb wz C here [] f h = absurd h
+three_words R wa wb wz C here (a ∷ []) f h = absurd h
+three_words R wa wb wz C here (a ∷ b ∷ []) f h = absurd h
+three_words R wa wb wz C here (a ∷ b ∷ z ∷ x ∷ t) f h = absurd h
 
 -- the tuples of the primitive are three words that fit, the third the function of the others
 pub record IsFunction (prim : Primitive) (wa wb wz : ℕ) (f : ℕ → ℕ → ℕ) : Type 1 where
@@ -15,4 +29,4 @@ pub zero_ne_one : ◌≢◌ {A = ℕ} 0 1
 zero_ne_one e = suc-ne-zero 0 (sym e)
 
 pub differ_at : {x y : ℕ} → x ≢ y → Some x ≡ Some y → ⊥
-differ_at d e = d (Some-injective e)
+differ_at d e = d (same_Some _ _ e)

@@ -2,11 +2,12 @@
 use Rattle.std.proofs.Common.{◌≡◌, ◌≢◌, ℕ, zero, suc, not, zero-mul, pow_pos, ◌+◌, ◌*◌, ◌^◌, ◌<◌, ◌≤◌, Bool, true, false, IsTrue, ◌==◌, if◌then◌else◌, refl, sym, ap, subst, ◌∙◌, List, [], ◌∷◌, Option, Some, None, IfSome, slice_get, arith, mul_comm}
 use Rattle.std.proofs.lemmas.Nat.{pow-add, mul-lt, pow_below}
 use Rattle.std.proofs.lemmas.Bool.Decides.{nat_tests}
+use Rattle.std.proofs.lemmas.Option.{same_Some}
 use Rattle.circuit_model.specs.declared.model.Primitive.TheVariants.{Mul}
 use Rattle.circuit_model.specs.Inference.{IsTuple, Matches, Refutes, Forces, IsInference}
 use Rattle.component_models.specs.Tables.{product_of, IsOtherFactor}
-use Rattle.component_models.proofs.Ports.{Some-injective, Known, Forced, Free, not_refuted, of_three_places}
-use Rattle.component_models.proofs.Functions.{IsFunction, differ_at}
+use Rattle.component_models.proofs.Ports.{Known, Forced, Free, not_refuted, of_three_places}
+use Rattle.component_models.proofs.Functions.{three_words, IsFunction, differ_at}
 
 module _ (wa wb : ℕ) where
   abbrev ws : List ℕ
@@ -19,14 +20,8 @@ module _ (wa wb : ℕ) where
   multiplier = record {
     third_fits = product_fits;
     tuple_of = λ a b z p q r e. record { fits = (p, (q, (r, tt))); relates = e };
-    by_words = words;
-  } where
-    words : (C : List ℕ → Type 0) → ((a b z : ℕ) → a < 2 ^ wa → b < 2 ^ wb → z < 2 ^ (wa + wb) → z ≡ a * b → C (a ∷ b ∷ z ∷ [])) → (t : List ℕ) → IsTuple Mul ws t → C t
-    words C here [] h = absurd h.relates
-    words C here (a ∷ []) h = absurd h.relates
-    words C here (a ∷ b ∷ []) h = absurd h.relates
-    words C here (a ∷ b ∷ z ∷ []) h = here a b z h.fits.0 h.fits.1.0 h.fits.1.1.0 h.relates
-    words C here (a ∷ b ∷ z ∷ x ∷ t) h = absurd h.relates
+    by_words = λ C here t h. three_words (λ w a b z. z ≡ a * b) wa wb (wa + wb) C here t h.fits h.relates;
+  }
 
   of_factors : (a b : ℕ) → a < 2 ^ wa → b < 2 ^ wb → IsTuple Mul ws (a ∷ b ∷ a * b ∷ [])
   of_factors a b p q = multiplier.tuple_of a b (a * b) p q (product_fits a b p q) refl
@@ -140,9 +135,9 @@ module _ (wa wb : ℕ) where
     second_forces v f =
         let some = f.some_tuple in
         let it : (v < 2 ^ wb) × (z ≡ a * v) = multiplier.by_words (λ t. Matches known t → slice_get t 1 ≡ Some v → (v < 2 ^ wb) × (z ≡ a * v)) (λ x y u px py pu e k at.
-        let e2 : x ≡ a = k.0 in let e3 : u ≡ z = k.1.0 in let e4 : y ≡ v = Some-injective at in
+        let e2 : x ≡ a = k.0 in let e3 : u ≡ z = k.1.0 in let e4 : y ≡ v = same_Some _ _ at in
         (rw (← e4) py, cc)) some.0 some.1 some.2 (f.every_tuple some.0 some.1 some.2) in
-        (o.forces v).1 (it.0, it.1, λ r s e. Some-injective (f.every_tuple (a ∷ r ∷ z ∷ []) (with_first r s e) (refl, (refl, tt))))
+        (o.forces v).1 (it.0, it.1, λ r s e. same_Some _ _ (f.every_tuple (a ∷ r ∷ z ∷ []) (with_first r s e) (refl, (refl, tt))))
 
     pub first_and_product : IsInference Mul ws known refuted (None ∷ forced ∷ None ∷ [])
     first_and_product = record {
@@ -151,7 +146,7 @@ module _ (wa wb : ℕ) where
     } where
       to : (p v : ℕ) → slice_get (None ∷ forced ∷ None ∷ []) p ≡ Some (Some v) → Forces Mul ws known p v
       to zero v e = cc
-      to (suc zero) v e = second_forced v (Some-injective e)
+      to (suc zero) v e = second_forced v (same_Some _ _ e)
       to (suc (suc zero)) v e = cc
       to (suc (suc (suc p))) v e = cc
 
@@ -196,9 +191,9 @@ module _ (wa wb : ℕ) where
     first_forces v f =
         let some = f.some_tuple in
         let it : (v < 2 ^ wa) × (z ≡ b * v) = multiplier.by_words (λ t. Matches known' t → slice_get t 0 ≡ Some v → (v < 2 ^ wa) × (z ≡ b * v)) (λ x y u px py pu e k at.
-        let same : x ≡ v = Some-injective at in
+        let same : x ≡ v = same_Some _ _ at in
         (rw (← same) px, turned_round x y u k.0 k.1.0 e ∙ ap (λ k. b * k) same)) some.0 some.1 some.2 (f.every_tuple some.0 some.1 some.2) in
-        (o.forces v).1 (it.0, it.1, λ r s e. Some-injective (f.every_tuple (r ∷ b ∷ z ∷ []) (with_second r s e) (refl, (refl, tt))))
+        (o.forces v).1 (it.0, it.1, λ r s e. same_Some _ _ (f.every_tuple (r ∷ b ∷ z ∷ []) (with_second r s e) (refl, (refl, tt))))
 
     pub second_and_product : IsInference Mul ws known' refuted (forced ∷ None ∷ None ∷ [])
     second_and_product = record {
@@ -206,7 +201,7 @@ module _ (wa wb : ℕ) where
       forces_exactly = λ p v. (to p v, from p v);
     } where
       to : (p v : ℕ) → slice_get (forced ∷ None ∷ None ∷ []) p ≡ Some (Some v) → Forces Mul ws known' p v
-      to zero v e = first_forced v (Some-injective e)
+      to zero v e = first_forced v (same_Some _ _ e)
       to (suc zero) v e = cc
       to (suc (suc zero)) v e = cc
       to (suc (suc (suc p))) v e = cc

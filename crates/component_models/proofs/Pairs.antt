@@ -1,12 +1,12 @@
 -- Primitives of two ports, each of whose words determines the other.
-use Rattle.std.proofs.Common.{◌≡◌, ◌≢◌, ℕ, ◌^◌, ◌<◌, ◌≤◌, ◌⊎◌, inl, inr, false, refl, sym, ap, subst, ◌∙◌, List, [], ◌∷◌, Option, Some, None, IsNone, IfSome, slice_get, arith}
+use Rattle.std.proofs.Common.{◌≡◌, ◌≢◌, ℕ, ◌-◌, ◌^◌, ◌<◌, ◌≤◌, ◌⊎◌, inl, inr, false, refl, sym, ap, subst, ◌∙◌, List, [], ◌∷◌, Option, Some, None, IsNone, IfSome, slice_get, arith}
 use Rattle.std.specs.Option.{option_map}
 use Rattle.std.proofs.lemmas.Nat.{pow_below}
 use Rattle.circuit_model.specs.declared.model.Primitive.{Primitive}
 use Rattle.circuit_model.specs.declared.model.Primitive.TheVariants.{Buf, Not}
 use Rattle.circuit_model.specs.Inference.{IsTuple, Matches, IsUsed, IsInference}
 use Rattle.component_models.proofs.Ports.{Known, Forced, Free, Absent, not_refuted}
-use Rattle.component_models.proofs.Functions.{zero_ne_one, differ_at}
+use Rattle.component_models.proofs.Functions.{two_words, zero_ne_one, differ_at}
 use Rattle.component_models.proofs.Complements.{complement_of, complement-lt, complement-complement}
 
 -- the tuples of the primitive are two words, each the turn of the other
@@ -77,13 +77,8 @@ module _ (w : ℕ) where
     fits = λ v p. p;
     twice = λ v p. refl;
     tuple_of = λ a z p q e. record { fits = (p, (q, tt)); relates = e };
-    by_words = words;
-  } where
-    words : (C : List ℕ → Type 0) → ((a z : ℕ) → a < 2 ^ w → z < 2 ^ w → z ≡ a → C (a ∷ z ∷ [])) → (t : List ℕ) → IsTuple Buf (w ∷ w ∷ w ∷ []) t → C t
-    words C here [] h = absurd h.relates
-    words C here (a ∷ []) h = absurd h.relates
-    words C here (a ∷ z ∷ []) h = here a z h.fits.0 h.fits.1.0 h.relates
-    words C here (a ∷ z ∷ x ∷ t) h = absurd h.relates
+    by_words = λ C here t h. two_words (λ w a z. z ≡ a) w w (w ∷ []) C here t h.fits h.relates;
+  }
 
   inverses : IsPair Not w (complement_of w)
   inverses = record {
@@ -91,13 +86,8 @@ module _ (w : ℕ) where
     fits = complement-lt w;
     twice = complement-complement w;
     tuple_of = λ a z p q e. record { fits = (p, (q, tt)); relates = e };
-    by_words = words;
-  } where
-    words : (C : List ℕ → Type 0) → ((a z : ℕ) → a < 2 ^ w → z < 2 ^ w → z ≡ complement_of w a → C (a ∷ z ∷ [])) → (t : List ℕ) → IsTuple Not (w ∷ w ∷ w ∷ []) t → C t
-    words C here [] h = absurd h.relates
-    words C here (a ∷ []) h = absurd h.relates
-    words C here (a ∷ z ∷ []) h = here a z h.fits.0 h.fits.1.0 h.relates
-    words C here (a ∷ z ∷ x ∷ t) h = absurd h.relates
+    by_words = λ C here t h. two_words (λ w a z. z ≡ 2 ^ w - 1 - a) w w (w ∷ []) C here t h.fits h.relates;
+  }
 
   same : (o : Option ℕ) → option_map (λ v. v) o ≡ o
   same None = refl

@@ -1,10 +1,10 @@
 -- One kind from another, by complementing the words at some ports.
 use Rattle.std.proofs.Common.{◌≡◌, ℕ, zero, suc, ◌^◌, ◌<◌, Bool, true, false, IsTrue, refl, sym, ap, ap₂, subst, ◌∙◌, List, [], ◌∷◌, Option, Some, None, IfSome, slice_get, arith, bit_and, bit_xor}
 use Rattle.std.specs.Option.{option_map}
+use Rattle.std.proofs.lemmas.Option.{same_Some}
 use Rattle.circuit_model.specs.declared.model.Primitive.{Primitive}
 use Rattle.circuit_model.specs.declared.model.Primitive.TheVariants.{And, Or, Xor, Nand, Nor, Xnor}
 use Rattle.circuit_model.specs.Inference.{ports_of, IsTuple, Matches, IsUnknownAt, IsUsed, Refutes, Forces, IsInference}
-use Rattle.component_models.proofs.Ports.{Some-injective}
 use Rattle.component_models.proofs.Functions.{IsFunction}
 use Rattle.component_models.proofs.Complements.{complement_of, complement-lt, complement-complement}
 use Rattle.component_models.proofs.Bitwise.{and_function, or_function, xor_function, nand_function, nor_function, xnor_function}
@@ -60,7 +60,7 @@ turn_at w f g h (suc zero) = turn w g
 turn_at w f g h (suc (suc p)) = turn w h
 
 turn-Some : (w : ℕ) (f : Bool) (x v : ℕ) → x < 2 ^ w → Some (turn w f x) ≡ Some v → Some x ≡ Some (turn w f v)
-turn-Some w f x v p e = ap Some (sym (turn-turn w f x p) ∙ ap (turn w f) (Some-injective e))
+turn-Some w f x v p e = ap Some (sym (turn-turn w f x p) ∙ ap (turn w f) (same_Some _ _ e))
 
 module _ (w : ℕ) (P Q : Primitive) (f g h : Bool) (r : AreTurned w P Q f g h) (a b z : Option ℕ) (pa : IfSome a (λ v. v < 2 ^ w)) (pb : IfSome b (λ v. v < 2 ^ w)) (pz : IfSome z (λ v. v < 2 ^ w)) where
   abbrev widths : List ℕ
@@ -150,7 +150,7 @@ module _ (w : ℕ) (P Q : Primitive) (f g h : Bool) (r : AreTurned w P Q f g h) 
   word_fits p v k = r.shape' (λ t. slice_get t p ≡ Some v → v < 2 ^ w) (λ x y u px py pu. here p x y u px py pu) k.some_tuple.0 k.some_tuple.1 (k.every_tuple k.some_tuple.0 k.some_tuple.1 k.some_tuple.2)
     where
       moved : (x : ℕ) → x < 2 ^ w → Some x ≡ Some v → v < 2 ^ w
-      moved x p e = let q : x ≡ v = Some-injective e in omega arith
+      moved x p e = let q : x ≡ v = same_Some _ _ e in omega arith
 
       here : (p x y u : ℕ) → x < 2 ^ w → y < 2 ^ w → u < 2 ^ w → slice_get (x ∷ y ∷ u ∷ []) p ≡ Some v → v < 2 ^ w
       here zero x y u px py pu e = moved x px e
@@ -161,10 +161,10 @@ module _ (w : ℕ) (P Q : Primitive) (f g h : Bool) (r : AreTurned w P Q f g h) 
   module _ (out : Bool) (fa fb fz : Option ℕ) (i : IsInference P (w ∷ w ∷ w ∷ []) (a ∷ b ∷ z ∷ []) out (fa ∷ fb ∷ fz ∷ [])) where
     turned_some : (q : Bool) (o : Option ℕ) (v : ℕ) → Some (turn_known w q o) ≡ Some (Some v) → (x : ℕ) × (Some o ≡ Some (Some x)) × (turn w q x ≡ v)
     turned_some q None v e = cc
-    turned_some q (Some x) v e = (x, refl, Some-injective (Some-injective e))
+    turned_some q (Some x) v e = (x, refl, same_Some _ _ (same_Some _ _ e))
 
     some_turned : (q : Bool) (o : Option ℕ) (v : ℕ) → v < 2 ^ w → Some o ≡ Some (Some (turn w q v)) → Some (turn_known w q o) ≡ Some (Some v)
-    some_turned q o v p e = ap Some (ap (turn_known w q) (Some-injective e) ∙ ap Some (turn-turn w q v p))
+    some_turned q o v p e = ap Some (ap (turn_known w q) (same_Some _ _ e) ∙ ap Some (turn-turn w q v p))
 
     turned_inference : IsInference Q (w ∷ w ∷ w ∷ []) (turn_known w f a ∷ turn_known w g b ∷ turn_known w h z ∷ []) out (turn_known w f fa ∷ turn_known w g fb ∷ turn_known w h fz ∷ [])
     turned_inference = record {

@@ -8,10 +8,11 @@ forced_by_two third other (Some a) None (Some z) = None ∷ Some (other z a) ∷
 forced_by_two third other None (Some b) (Some z) = Some (other z b) ∷ None ∷ None ∷ []
 forced_by_two third other _ _ _ = None ∷ None ∷ None ∷ []
 
--- the words of w bits that a sum and a difference are, without carry
+-- the sum of two words of w bits, without its carry
 abbrev pub sum_of : ℕ → ℕ → ℕ → ℕ
 sum_of w a b = (a + b) % 2 ^ w
 
+-- what is to be added to the second for the first, without carry
 abbrev pub difference_of : ℕ → ℕ → ℕ → ℕ
 difference_of w z a = (z + (2 ^ w - a)) % 2 ^ w
 

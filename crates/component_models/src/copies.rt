@@ -15,7 +15,7 @@ pub fn infer_buf(width: Width, a: Option<u64>, z: Option<u64>) -> Inference
     requires open_port { IsNone a ⊎ IsNone z }
     ensures { IsInference Buf (width ∷ width ∷ width ∷ []) (a ∷ z ∷ None ∷ []) result.refuted result.forced }
 {
-    // At least one bit, so that there are two words.
+    // For the proof alone: a width has at least one bit, so that there are two words.
     let _bits = width.bits();
     Inference {
         refuted: false,
@@ -30,7 +30,7 @@ pub fn infer_not(width: Width, a: Option<u64>, z: Option<u64>) -> Inference
     requires open_port { IsNone a ⊎ IsNone z }
     ensures { IsInference Not (width ∷ width ∷ width ∷ []) (a ∷ z ∷ None ∷ []) result.refuted result.forced }
 {
-    // At least one bit, so that there are two words.
+    // For the proof alone: a width has at least one bit, so that there are two words.
     let _bits = width.bits();
     Inference {
         refuted: false,

@@ -91,7 +91,7 @@ pub fn infer_xor(width: Width, a: Option<u64>, b: Option<u64>, z: Option<u64>) -
     ensures exact { IsInference Xor (width ∷ width ∷ width ∷ []) (a ∷ b ∷ z ∷ []) result.refuted result.forced }
     ensures fit { WordsFit (width ∷ width ∷ width ∷ []) result.forced }
 {
-    // At least one bit, so that there are two words.
+    // For the proof alone: a width has at least one bit, so that there are two words.
     let _bits = width.bits();
     Inference {
         refuted: false,

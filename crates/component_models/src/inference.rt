@@ -1,7 +1,7 @@
 // One inference, for every primitive.
 
-ghost use Rattle.std.specs.Prelude.{◌≡◌, length};
-ghost use Rattle.circuit_model.specs.Inference.{IsInference, IsOfPorts};
+ghost use Rattle.std.specs.Prelude.{◌≡◌, ◌↔◌, ◌≤◌, ◌<◌, ℕ, IsTrue, length};
+ghost use Rattle.circuit_model.specs.Inference.{IsInference, IsOfPorts, IsUnknownAt};
 ghost use Rattle.circuit_model.specs.Lawful.{AreLawfulWidths};
 ghost use Rattle.component_models.specs.Asking.{WordsFit, HasOpenPort};
 
@@ -12,8 +12,9 @@ use crate::sums::infer_sum;
 use circuit_model::Prim;
 use word_domain::Width;
 
-/// What known words say of a primitive. A place has `None` where no word is forced, which is so
-/// at each port with a known word and past the ports.
+/// What known words say of a relation: that no tuple of it has them, or the words that all tuples with them have at
+/// other ports. A place has `None` where no word is forced, which is so at each port with a known word and past the
+/// ports. A forced word is below two to the width of its port.
 #[derive(Clone, Copy, PartialEq, Eq, Debug)]
 pub struct Inference {
     pub refuted: bool,
@@ -21,10 +22,10 @@ pub struct Inference {
     pub ghost places: { length forced ≡ 3 },
 }
 
-/// What the words known at some ports of a primitive say: that no tuple of its relation has them,
-/// or else, at each other port, the one word that all tuples with them have there.
+/// What the words known at some ports say (the local propagation of de Kleer and Williams 1987): that no tuple of the
+/// relation has them, or else, at each other port, the one word that all tuples with them have there.
 ///
-/// The product of a multiplier alone says nothing.
+/// The product of a multiplier alone says nothing. It takes no memory.
 pub fn infer(prim: Prim, widths: [Width; 3], known: [Option<u64>; 3]) -> Inference
     requires widths { AreLawfulWidths prim widths }
     requires words { WordsFit widths known }
@@ -48,4 +49,17 @@ pub fn infer(prim: Prim, widths: [Width; 3], known: [Option<u64>; 3]) -> Inferen
         Prim::Mul => infer_product(width, second, a, b, z),
         Prim::Const { value } => infer_const(value),
     }
+}
+
+/// Whether no word is known at some port, as [`infer`] requires. There are at most three ports.
+pub fn has_open_port(ports: u8, known: [Option<u64>; 3]) -> bool
+    requires { ports ≤ 3 }
+    ensures { IsTrue result ↔ ((port : ℕ) × (port < ports) × IsUnknownAt known port) }
+{
+    for port in 0..ports {
+        if known[port as usize].is_none() {
+            return true;
+        }
+    }
+    false
 }

@@ -59,7 +59,7 @@ fn product(a_width: Width, b_width: Width, a: Option<u64>, b: Option<u64>) -> Op
     ensures b_words { 2 ≤ 2 ^ b_width }
     ensures value { result ≡ product_of a b }
 {
-    // Words of 32 bits at most, so that the product of two fits.
+    // For the proof alone: words are of the widest width at most, so that the product of two fits 64 bits.
     let _masks = (a_width.mask(), b_width.mask());
     match (a, b) {
         (Some(a), Some(b)) => Some(a * b),
@@ -72,7 +72,7 @@ fn product(a_width: Width, b_width: Width, a: Option<u64>, b: Option<u64>) -> Op
 fn other_factor(width: Width, factor: u64, product: u64) -> (bool, Option<u64>)
     ensures { IsOtherFactor width factor product result.0 result.1 }
 {
-    // At least one bit, so that there are two words.
+    // For the proof alone: a width has at least one bit, so that there are two words.
     let _bits = width.bits();
     if factor == 0 {
         return (product != 0, None);

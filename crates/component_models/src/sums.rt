@@ -16,7 +16,7 @@ pub fn infer_sum(width: Width, a: Option<u64>, b: Option<u64>, z: Option<u64>) -
     requires open_port { IsNone a ⊎ (IsNone b ⊎ IsNone z) }
     ensures { IsInference Add (width ∷ width ∷ width ∷ []) (a ∷ b ∷ z ∷ []) result.refuted result.forced }
 {
-    // At least one bit, so that there are two words.
+    // For the proof alone: a width has at least one bit, so that there are two words.
     let _bits = width.bits();
     Inference {
         refuted: false,

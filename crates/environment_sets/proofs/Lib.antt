@@ -1,8 +1,12 @@
+pub mod Words
 pub mod Slots
 pub mod Listings
+pub mod Families
+pub mod Counting
 pub mod Sizes
 pub mod OrderLaws
 pub mod Hitting
 pub mod Walking
 pub mod Within
 pub mod Left
+pub mod Membership

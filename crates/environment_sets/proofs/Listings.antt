@@ -1,6 +1,9 @@
 -- Lists of exactly what has a property.
 use Rattle.std.proofs.Common.{◌≡◌, ℕ, zero, suc, ◌<◌, ◌⊎◌, inl, inr, Bool, true, false, cond, IsTrue, true≢false, List, [], ◌∷◌, ◌++◌, length, get_or, map, refl, sym, ap, ap₂, subst, ◌∙◌, arith}
 use Rattle.std.specs.List.{filter}
+use Rattle.std.proofs.lemmas.List.{map-append}
+use Rattle.environment_sets.specs.declared.environment.Env.{Env}
+use Rattle.environment_sets.specs.Members.{members, sets}
 use Rattle.environment_sets.specs.Lists.{IsIn, IsRising, IsStrict, IsListing}
 
 module _ {X : Type 0} where
@@ -97,3 +100,7 @@ module _ {X Y : Type 0} (f : X → Y) where
         | true ↦ ap (λ ys. f x ∷ ys) (map-filter test xs)
         | false ↦ map-filter test xs
       ]
+
+-- the sets of a list with one environment more
+pub sets-push : (es : List Env) (e : Env) → sets (es ++ e ∷ []) ≡ sets es ++ members e ∷ []
+sets-push es e = map-append members es (e ∷ [])

@@ -3,12 +3,13 @@ use Rattle.std.proofs.Common.{◌≡◌, ℕ, ◌≤◌, length, drop, Bool, tru
 use Rattle.std.specs.List.{count_by}
 use Rattle.std.proofs.lemmas.Bool.Decides.{nat_tests}
 use Rattle.std.proofs.lemmas.List.{drop_all}
+use Rattle.std.proofs.lemmas.Bool.{false_from_ne_true}
 use mathlib.Core.Path.{fun_ext}
 use Rattle.environment_sets.specs.Sets.{Set, IsBelow, size_below}
 use Rattle.environment_sets.specs.Lists.{IsIn}
 use Rattle.environment_sets.specs.Orders.{first_of_both, by_first, compare_in, ComesBefore, ListsAll, IsOrder}
 use Rattle.environment_sets.specs.Laws.{OrderIsStrict, OrderIsTransitive, EqualSetsAreSame, OrderIsTotal, ListingsAreUnique}
-use Rattle.environment_sets.proofs.Sizes.{not_true, sizes_are_counts}
+use Rattle.environment_sets.proofs.Sizes.{sizes_are_counts}
 use Rattle.environment_sets.proofs.Listings.{same_listing}
 
 -- at one name: what the two have there, and how they compare by the later names
@@ -78,7 +79,7 @@ module _ {N : Type 0} where
   same_sets order E F all others agree =
       fun_ext (λ k. elim (E k) as (λ b. E k ≡ b → E k ≡ F k) [
         | true ↦ λ is. agree k (all k is)
-        | false ↦ λ out. out ∙ sym (not_true (F k) (λ there. true≢false (sym there ∙ (sym (agree k (others k there)) ∙ out))))
+        | false ↦ λ out. out ∙ sym (false_from_ne_true (F k) (λ there. true≢false (sym there ∙ (sym (agree k (others k there)) ∙ out))))
       ] refl)
 
 pub by_first-past : (order : List ℕ) (E F : Set ℕ) (i : ℕ) → length order ≤ i → by_first (drop i order) E F ≡ Equal

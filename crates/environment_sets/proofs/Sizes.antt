@@ -1,34 +1,26 @@
 -- How many elements a set has.
-use Rattle.std.proofs.Common.{◌≡◌, ◌≢◌, ℕ, zero, suc, ◌+◌, ◌<◌, ◌⊎◌, inl, inr, Bool, true, false, not, ◌&&◌, ◌==◌, cond, IsTrue, true≢false, refl, sym, ap, ap₂, ◌∙◌, List, [], ◌∷◌, arith, add-one, zero-add}
+use Rattle.std.proofs.Common.{◌≡◌, ◌≢◌, ℕ, zero, suc, ◌+◌, ◌<◌, ◌⊎◌, inl, inr, Bool, true, false, not, ◌&&◌, ◌==◌, cond, IsTrue, refl, sym, ap, ap₂, ◌∙◌, List, [], ◌∷◌, arith, add-one, zero-add}
 use Rattle.std.specs.List.{count_by}
-use Rattle.std.proofs.lemmas.Bool.Decides.{nat_tests}
-use Rattle.std.proofs.lemmas.List.Sums.{sum_by-cons}
+use Rattle.std.proofs.lemmas.Bool.{true≢false, false_from_ne_true, and_parts, and_right, eq-eqb, ne_eqb}
 use Rattle.environment_sets.specs.Sets.{Set, size_below, only, ◌∖◌}
 use Rattle.environment_sets.specs.Lists.{IsIn}
 use Rattle.environment_sets.specs.Laws.{SizesAreCounts}
-
-pub not_true : (b : Bool) → (IsTrue b → ⊥) → b ≡ false
-not_true true h = absurd (h refl)
-not_true false h = refl
+use Rattle.environment_sets.proofs.Counting.{count_by-cons, count_by-agree}
 
 pub last_or_lower : (k n : ℕ) → k < suc n → (k ≡ n) ⊎ (k < n)
 last_or_lower k n h = grind arith
 
 itself_out : (E : Set ℕ) (n : ℕ) → (E ∖ only n) n ≡ false
-itself_out E n = let e : (n == n) ≡ true = grind (arith, nat_tests) in ap (λ b. E n && not b) e ∙ and-false (E n)
-  where
-    and-false : (a : Bool) → (a && false) ≡ false
-    and-false true = refl
-    and-false false = refl
+itself_out E n = and_right (E n) (not (n == n)) (ap not (eq-eqb n n refl))
 
 others_stay : (E : Set ℕ) (n k : ℕ) → k ≢ n → (E ∖ only n) k ≡ E k
-others_stay E n k ne = let e : (k == n) ≡ false = grind (arith, nat_tests) in ap (λ b. E k && not b) e ∙ and-true (E k)
+others_stay E n k ne = ap (λ b. E k && not b) (ne_eqb k n ne) ∙ and-true (E k)
   where
     and-true : (a : Bool) → (a && true) ≡ a
     and-true true = refl
     and-true false = refl
 
-size_below-agree : (n : ℕ) (E F : Set ℕ) → ((k : ℕ) → k < n → E k ≡ F k) → size_below n E ≡ size_below n F
+pub size_below-agree : (n : ℕ) (E F : Set ℕ) → ((k : ℕ) → k < n → E k ≡ F k) → size_below n E ≡ size_below n F
 unfolding size_below
 size_below-agree zero E F same = refl
 size_below-agree (suc n) E F same = ap₂ (λ a b. a + cond b 1 0) (size_below-agree n E F (λ k low. same k (omega arith))) (same n (omega arith))
@@ -54,20 +46,8 @@ size_below-less_one (suc n) E x low is =
           ap₂ (λ a b. a + cond b 1 0) rest (sym stays) ∙ omega arith
     ]
 
-count_by-cons : (E : Set ℕ) (x : ℕ) (xs : List ℕ) → count_by E (x ∷ xs) ≡ cond (E x) 1 0 + count_by E xs
-count_by-cons E x xs = sum_by-cons (λ y. cond (E y) 1 0) x xs
-
-count_by-agree : (E F : Set ℕ) (xs : List ℕ) → ((k : ℕ) → IsIn xs k → E k ≡ F k) → count_by E xs ≡ count_by F xs
-count_by-agree E F [] same = refl
-count_by-agree E F (x ∷ xs) same =
-    count_by-cons E x xs ∙ (ap₂ (λ b a. cond b 1 0 + a) (same x (inl refl)) (count_by-agree E F xs (λ k h. same k (inr h))) ∙ sym (count_by-cons F x xs))
-
-left : (a b : Bool) → (a && b) ≡ true → a ≡ true
-left true b h = refl
-left false b h = h
-
 part : (E F : Set ℕ) (k : ℕ) → IsTrue ((E ∖ F) k) → IsTrue (E k)
-part E F k h = left (E k) _ h
+part E F k h = (and_parts (E k) (not (F k)) h).0
 
 -- the first name is in the set
 count_with : (n : ℕ) (E : Set ℕ) (x : ℕ) (order : List ℕ) → x < n → IsTrue (E x) → ((k : ℕ) → IsIn order k → x ≡ k → ⊥) → count_by (E ∖ only x) order ≡ size_below n (E ∖ only x) → 1 + count_by E order ≡ size_below n E
@@ -77,7 +57,7 @@ count_with n E x order low is apart fewer =
     omega arith
 
 pub sizes_are_counts : SizesAreCounts
-sizes_are_counts n E [] low distinct listed = sym (size_below-none n E (λ k _. not_true (E k) (λ is. listed k is)))
+sizes_are_counts n E [] low distinct listed = sym (size_below-none n E (λ k _. false_from_ne_true (E k) (λ is. listed k is)))
 sizes_are_counts n E (x ∷ order) low distinct listed =
     count_by-cons E x order
     ∙ elim (E x) as (λ b. E x ≡ b → cond b 1 0 + count_by E order ≡ size_below n E) [

@@ -1,10 +1,11 @@
 -- A walk lists what it goes through.
-use Rattle.std.proofs.Common.{inl, inr, Option, Some, None, List, [], ◌∷◌, subst}
-use Rattle.environment_sets.specs.Sets.{Set}
-use Rattle.environment_sets.specs.Lists.{IsIn, IsListing}
+use Rattle.std.proofs.Common.{◌⊎◌, inl, inr, Option, Some, None, List, [], ◌∷◌, ◌++◌, subst}
+use Rattle.environment_sets.specs.Sets.{Set, ◌⊆◌}
+use Rattle.environment_sets.specs.Lists.{IsIn, IsRising, IsListing}
 use Rattle.environment_sets.specs.Orders.{ComesBefore}
-use Rattle.environment_sets.specs.Walks.{ComesAfter, IsFurther, IsWalk}
+use Rattle.environment_sets.specs.Walks.{ComesAfter, IsFurther, IsNext, GivesNext, IsWalk}
 use Rattle.environment_sets.specs.Laws.{WalksListAll}
+use Rattle.environment_sets.proofs.Listings.{IsIn-push, IsIn-front, IsIn-last, IsRising-push}
 use Rattle.environment_sets.proofs.OrderLaws.{order_is_transitive}
 
 module _ {N : Type 0} (order : List N) where
@@ -32,6 +33,46 @@ module _ {N : Type 0} (order : List N) where
             ],
           );
         }
+
+-- ---- a list that a walk goes on to fill
+
+module _ {N : Type 0} (order : List N) (Family : Set N → Type 0) where
+  -- the sets of the family are listed up to the last one: those that are not come after it
+  pub record ListsTo (last : Option (Set N)) (sets : List (Set N)) : Type 0 where
+    pub rising : IsRising (ComesBefore order) sets
+    pub sound : (E : Set N) → IsIn sets E → Family E
+    pub covered : (E : Set N) → Family E → IsIn sets E ⊎ ComesAfter order last E
+    pub below : (E F : Set N) → IsIn sets E → ComesAfter order last F → ComesBefore order E F
+
+  -- at the start
+  pub ListsTo-none : ListsTo None []
+  ListsTo-none = record { rising = tt; sound = λ E h. absurd h; covered = λ E h. inr tt; below = λ E F h after. absurd h }
+
+  module _ (mask : Set N) (all : (E : Set N) → Family E → E ⊆ mask) (last : Option (Set N)) (sets : List (Set N)) (was : ListsTo last sets) where
+    -- one step more
+    pub ListsTo-more : (E : Set N) → IsNext order Family mask last E → ListsTo (Some E) (sets ++ E ∷ [])
+    ListsTo-more E next = record {
+      rising = IsRising-push (ComesBefore order) sets E was.rising (λ F h. was.below F E h next.further.after);
+      sound = λ F h. elim (IsIn-push sets E F h) [ inl before ↦ was.sound F before | inr e ↦ subst Family e next.further.member ];
+      covered = λ F member. elim (was.covered F member) [
+        | inl before ↦ inl (IsIn-front sets E F before)
+        | inr after ↦ elim (next.first F (record { member = member; inside = all F member; after = after })) [
+          | inl e ↦ inl (IsIn-last sets E F e)
+          | inr later ↦ inr later
+        ]
+      ];
+      below = λ F G h after. elim (IsIn-push sets E F h) [
+        | inl before ↦ order_is_transitive N order F E G (was.below F E before next.further.after) after
+        | inr e ↦ let P : Set N → Type 0 = λ x. ComesBefore order x G in subst P e after
+      ];
+    }
+
+    -- at the end, where there is no next one, it is the listing
+    pub ListsTo-all : GivesNext order Family mask last None → IsListing (ComesBefore order) Family sets
+    ListsTo-all none = record {
+      rising = was.rising;
+      exact = λ E. (was.sound E, λ member. elim (was.covered E member) [ inl h ↦ h | inr after ↦ absurd (none E (record { member = member; inside = all E member; after = after })) ]);
+    }
 
 pub walks_list_all : (N : Type 0) → WalksListAll N
 walks_list_all N order Es mask walk is =

@@ -1,8 +1,9 @@
 -- What the test of a subset says.
 use Rattle.std.proofs.Common.{◌≡◌, ℕ, zero, suc, ◌+◌, ◌<◌, inl, inr, Bool, true, false, not, ◌&&◌, cond, IsTrue, true≢false, refl, sym, ap, ◌∙◌, arith}
 use Rattle.std.proofs.lemmas.Bool.Decides.{nat_tests}
+use Rattle.std.proofs.lemmas.Bool.{false≢true, false_from_ne_true}
 use Rattle.environment_sets.specs.Sets.{Set, ◌⊆◌, ◌∖◌, IsBelow, size_below, is_within}
-use Rattle.environment_sets.proofs.Sizes.{not_true, size_below-none, last_or_lower}
+use Rattle.environment_sets.proofs.Sizes.{size_below-none, last_or_lower}
 
 none_of_size : (n : ℕ) (E : Set ℕ) → size_below n E ≡ 0 → (k : ℕ) → k < n → E k ≡ false
 unfolding size_below
@@ -20,7 +21,7 @@ none_of_size (suc n) E e k low =
 implies : (a b : Bool) → (a && not b) ≡ false → a ≡ true → b ≡ true
 implies true true e h = refl
 implies true false e h = absurd (true≢false e)
-implies false b e h = absurd (true≢false (sym h))
+implies false b e h = absurd (false≢true h)
 
 implied : (a b : Bool) → (a ≡ true → b ≡ true) → (a && not b) ≡ false
 implied true b h = ap not (h refl)
@@ -36,4 +37,4 @@ holds_within n E F within = let none : size_below n (E ∖ F) ≡ 0 = size_below
 -- a test that says whether E is a subset of F is that test
 pub is_within_test : (n : ℕ) (E F : Set ℕ) (b : Bool) → IsBelow n E → (IsTrue b → E ⊆ F) → (E ⊆ F → IsTrue b) → b ≡ is_within n E F
 is_within_test n E F true low to from = sym (holds_within n E F (to refl))
-is_within_test n E F false low to from = sym (not_true (is_within n E F) (λ is. true≢false (sym (from (within_holds n E F low is)))))
+is_within_test n E F false low to from = sym (false_from_ne_true (is_within n E F) (λ is. false≢true (from (within_holds n E F low is))))

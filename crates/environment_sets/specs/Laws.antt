@@ -31,6 +31,7 @@ module _ (N : Type 0) where
   abbrev pub OrderIsStrict : Type 0
   OrderIsStrict = (order : List N) → IsStrict (ComesBefore order)
 
+  -- a set that comes before another comes before what comes after that one
   abbrev pub OrderIsTransitive : Type 0
   OrderIsTransitive = (order : List N) (E F G : Set N) → ComesBefore order E F → ComesBefore order F G → ComesBefore order E G
 

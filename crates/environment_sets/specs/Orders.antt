@@ -7,6 +7,7 @@ use Rattle.std.specs.declared.cmp.Ordering.TheVariants.{Less, Equal, Greater}
 use Rattle.environment_sets.specs.Sets.{Set}
 use Rattle.environment_sets.specs.Lists.{IsIn, AreDistinct}
 
+-- the first of two orders, or the second where the first says that both are equal
 abbrev pub first_of_both : Ordering → Ordering → Ordering
 first_of_both Less o = Less
 first_of_both Equal o = o
@@ -22,6 +23,7 @@ module _ {N : Type 0} where
   abbrev pub compare_in : List N → Set N → Set N → Ordering
   compare_in order E F = first_of_both (nat_cmp (count_by E order) (count_by F order)) (by_first order E F)
 
+  -- the one set comes before the other in this order of names
   abbrev pub ComesBefore : List N → Set N → Set N → Type 0
   ComesBefore order E F = compare_in order E F ≡ Less
 

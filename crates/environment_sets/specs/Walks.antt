@@ -36,6 +36,7 @@ module _ {N : Type 0} where
   IsWalk order Family mask last [] = GivesNext order Family mask last None
   IsWalk order Family mask last (E ∷ rest) = GivesNext order Family mask last (Some E) × IsWalk order Family mask (Some E) rest
 
+  -- the test that a set comes after the last one
   abbrev pub is_after : List N → Option (Set N) → Set N → Bool
   is_after order None E = true
   is_after order (Some last) E = is_lt (compare_in order last E)

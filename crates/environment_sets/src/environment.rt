@@ -1,22 +1,31 @@
 // Sets of slots.
-ghost use Rattle.std.specs.Prelude.{◌≡◌, length};
-ghost use Rattle.environment_sets.specs.declared.environment.TheConstants.{SLOTS};
+ghost use Rattle.std.specs.Prelude.{◌≡◌, ℕ, ◌^◌, ◌<◌, length, slice_index};
+ghost use Rattle.environment_sets.specs.declared.environment.TheConstants.{SLOTS, WORD_BITS, WORDS};
 
 use std::cmp::Ordering;
 
 /// Each slot is below this number.
-pub const SLOTS: usize = 256;
+pub const SLOTS: usize = 1024;
 
-/// An environment (de Kleer 1986): a set of assumptions, each named by its slot, a number below [`SLOTS`].
-/// Contracts see which slots it has, by `members`, and two environments with the same slots are equal.
+// The bits of a word.
+const WORD_BITS: usize = u64::BITS as usize;
+
+// The words of an environment.
+const WORDS: usize = SLOTS / WORD_BITS;
+
+/// An environment (de Kleer 1986): a set of assumptions, each named by its slot, a number below [`SLOTS`]. It has one
+/// bit for each slot, and each call goes a word at a time. Contracts see which slots it has, by `members`, and two
+/// environments with the same slots are equal.
 #[derive(Clone, Copy, PartialEq, Eq, Debug)]
 pub struct Env {
-    slots: [bool; SLOTS],
-    ghost full: { length slots ≡ SLOTS },
+    // Slot k is bit k % WORD_BITS of word k / WORD_BITS.
+    words: [u64; WORDS],
+    ghost full: { length words ≡ WORDS },
+    ghost fit: { (i : ℕ) → slice_index words i < 2 ^ WORD_BITS },
 }
 
 impl Env {
-    ghost use Rattle.std.specs.Prelude.{◌<◌, ◌↔◌, IsTrue};
+    ghost use Rattle.std.specs.Prelude.{◌↔◌, IsTrue};
     ghost use Rattle.environment_sets.specs.Sets.{no_elements, only, size_below, is_within, ◌∪◌, ◌∩◌, ◌∖◌, ◌⊆◌};
     ghost use Rattle.environment_sets.specs.Members.{members};
     ghost use Rattle.environment_sets.specs.Orders.{compare_in, by_first, ListsAll, IsOrder};
@@ -25,51 +34,49 @@ impl Env {
     pub fn empty() -> Env
         ensures { members result ≡ no_elements }
     {
-        Env {
-            slots: [false; SLOTS],
-        }
+        Env { words: [0; WORDS] }
     }
 
-    /// The environment with the slot too.
+    /// The environment with the slot too, which is below [`SLOTS`].
     pub fn with(self, slot: u16) -> Env
         requires { slot < SLOTS }
         ensures { members result ≡ members self ∪ only slot }
     {
-        let mut slots = self.slots;
-        slots[slot as usize] = true;
-        Env { slots }
+        let mut words = self.words;
+        words[slot as usize / WORD_BITS] |= 1 << (slot as usize % WORD_BITS);
+        Env { words }
     }
 
-    /// The environment without the slot.
+    /// The environment without the slot, which is below [`SLOTS`].
     pub fn without(self, slot: u16) -> Env
         requires { slot < SLOTS }
         ensures { members result ≡ members self ∖ only slot }
     {
-        let mut slots = self.slots;
-        slots[slot as usize] = false;
-        Env { slots }
+        let mut words = self.words;
+        words[slot as usize / WORD_BITS] &= !(1 << (slot as usize % WORD_BITS));
+        Env { words }
     }
 
     /// The slots of either environment.
     pub fn union(self, other: Env) -> Env
         ensures { members result ≡ members self ∪ members other }
     {
-        let mut slots = self.slots;
-        for i in 0..SLOTS {
-            slots[i] = self.slots[i] | other.slots[i];
+        let mut words = self.words;
+        for i in 0..WORDS {
+            words[i] = self.words[i] | other.words[i];
         }
-        Env { slots }
+        Env { words }
     }
 
     /// The slots of both environments.
     pub fn meet(self, other: Env) -> Env
         ensures { members result ≡ members self ∩ members other }
     {
-        let mut slots = self.slots;
-        for i in 0..SLOTS {
-            slots[i] = self.slots[i] & other.slots[i];
+        let mut words = self.words;
+        for i in 0..WORDS {
+            words[i] = self.words[i] & other.words[i];
         }
-        Env { slots }
+        Env { words }
     }
 
     /// Whether each slot is one of the other environment too. An environment is a subset of itself.
@@ -79,20 +86,20 @@ impl Env {
         // `subset` again, as a test that computes.
         ensures test { result ≡ is_within SLOTS (members self.now) (members other.now) }
     {
-        for i in 0..SLOTS {
-            if self.slots[i] && !other.slots[i] {
+        for i in 0..WORDS {
+            if self.words[i] & other.words[i] != self.words[i] {
                 return false;
             }
         }
         true
     }
 
-    /// Whether the slot is one of the environment.
+    /// Whether the slot, which is below [`SLOTS`], is one of the environment.
     pub fn has(&self, slot: u16) -> bool
         requires { slot < SLOTS }
         ensures { result ≡ members self.now slot }
     {
-        self.slots[slot as usize]
+        (self.words[slot as usize / WORD_BITS] >> (slot as usize % WORD_BITS)) & 1 == 1
     }
 
     /// How many slots the environment has, at most [`SLOTS`].
@@ -100,17 +107,16 @@ impl Env {
         ensures { result ≡ size_below SLOTS (members self.now) }
     {
         let mut size = 0;
-        for i in 0..SLOTS {
-            if self.slots[i] {
-                size += 1;
-            }
+        for i in 0..WORDS {
+            size += self.words[i].count_ones() as u16;
         }
         size
     }
 
     /// The place of this environment before or after the other: the smaller one comes first. Of two of one size,
     /// the one comes first that has the first slot in `order` at which they differ, which is the lexicographic
-    /// order of their lists of slots. `Equal` says that they are the same set.
+    /// order of their lists of slots. `Equal` says that they are the same set. `order` has distinct slots, among them
+    /// all of both environments.
     pub fn compare_in(&self, order: &[u16], other: &Env) -> Ordering
         requires slots { IsOrder SLOTS order.now }
         requires listed { ListsAll order.now (members self.now) }

@@ -41,7 +41,7 @@ impl EnvList {
         self.list.is_empty()
     }
 
-    /// The environment at a place, counted from 0.
+    /// The environment at a place, counted from 0 and below the length.
     pub fn at(&self, i: usize) -> Env
         requires { i < length self.now }
         ensures { slice_get self.now i ≡ Some result }

@@ -10,7 +10,7 @@ use Rattle.propagation.specs.Propagating.{IsKnownAt}
 use Rattle.inference_search.specs.declared.inferred.Inferred.{Inferred}
 use Rattle.inference_search.specs.Inferences.{facts, inference}
 use Rattle.inference_search.specs.Choices.{IsOneOf, Agree, AreAlike, Uses, GoesFrom, to_fact, IsForcedWord, HasForcedWord, IsMade, IsTold}
-use Rattle.inference_search.proofs.Saying.{Forces-port}
+use Rattle.circuit_model.proofs.Inferences.{Forces-port}
 
 -- what the test says is what has to be used
 Uses-tested : (must : Option Fact) (cells : List Cell) (known : List (Option ℕ)) (a b z : Option Fact)

@@ -1,35 +1,10 @@
 -- Lists that grow.
-use Rattle.std.proofs.Common.{◌≡◌, ◌⊎◌, inl, inr, ℕ, suc, ◌+◌, ◌<◌, ◌≤◌, List, [], ◌∷◌, ◌++◌, length, slice_index_or, Some, slice_get, refl, sym, ap, subst, below_more, arith}
+use Rattle.std.proofs.Common.{◌≡◌, inl, inr, ℕ, ◌+◌, ◌<◌, ◌≤◌, List, [], ◌∷◌, ◌++◌, length, slice_index_or, sym, subst, below_more, arith}
 use Rattle.environment_sets.specs.Lists.{IsIn}
+use Rattle.environment_sets.proofs.Listings.{IsIn-push, IsIn-front}
+use Rattle.environment_sets.proofs.Membership.{each_place}
 use Rattle.inference_search.specs.declared.inferred.Inferred.{Inferred}
 use Rattle.inference_search.specs.Choices.{Stays, Finds}
-
-module _ {X : Type 0} where
-  pub IsIn-before : (xs : List X) (y x : X) → IsIn xs x → IsIn (xs ++ y ∷ []) x
-  IsIn-before [] y x h = absurd h
-  IsIn-before (z ∷ xs) y x (inl e) = inl e
-  IsIn-before (z ∷ xs) y x (inr h) = inr (IsIn-before xs y x h)
-
-  pub IsIn-last : (xs : List X) (x : X) → IsIn (xs ++ x ∷ []) x
-  IsIn-last [] x = inl refl
-  IsIn-last (z ∷ xs) x = inr (IsIn-last xs x)
-
-  IsIn-split : (xs : List X) (y x : X) → IsIn (xs ++ y ∷ []) x → IsIn xs x ⊎ (y ≡ x)
-  IsIn-split [] y x (inl e) = inr e
-  IsIn-split [] y x (inr h) = absurd h
-  IsIn-split (z ∷ xs) y x (inl e) = inl (inl e)
-  IsIn-split (z ∷ xs) y x (inr h) = elim (IsIn-split xs y x h) [ inl h ↦ inl (inr h) | inr e ↦ inr e ]
-
-  -- what holds at each place holds of each element
-  at_each : (P : X → Type 0) (xs : List X) (d : X) → ((k : ℕ) → k < length xs → P (slice_index_or xs k d)) → (x : X) → IsIn xs x → P x
-  at_each P [] d each x h = absurd h
-  at_each P (z ∷ xs) d each x (inl e) = subst P e (each 0 (omega arith))
-  at_each P (z ∷ xs) d each x (inr h) = at_each P xs d (λ k inside. each (suc k) (omega arith)) x h
-
-  pub place_of : (xs : List X) (x : X) → IsIn xs x → (k : ℕ) × (slice_get xs k ≡ Some x)
-  place_of [] x h = absurd h
-  place_of (y ∷ xs) x (inl e) = (0, ap Some e)
-  place_of (y ∷ xs) x (inr h) = let at : (k : ℕ) × (slice_get xs k ≡ Some x) = place_of xs x h in (suc at.0, at.1)
 
 module _ (Q : Inferred → Type 0) where
   pub Finds-same : (Done : List Inferred → Type 0) (old : List Inferred) → Done old → Finds Q Done old old
@@ -40,8 +15,8 @@ module _ (Q : Inferred → Type 0) where
       let P : List Inferred → Type 0 = λ new. Finds Q Done old new in
       let has : (j : Inferred) → i ≡ j → Q j = λ j e. subst Q e q in
       subst P (sym is) (record {
-        stays = λ j h. IsIn-before old i j h;
-        only = λ j h. elim (IsIn-split old i j h) [ inl h ↦ inl h | inr e ↦ inr (has j e) ];
+        stays = λ j h. IsIn-front old i j h;
+        only = λ j h. elim (IsIn-push old i j h) [ inl h ↦ inl h | inr e ↦ inr (has j e) ];
         done = done;
       })
 
@@ -75,5 +50,5 @@ module _ (Q : Inferred → Type 0) where
     Finds-all n old new reached found = record {
       stays = found.stays;
       only = found.only;
-      done = at_each (λ (x : X). Done x new) all d (λ k inside. found.done k (omega arith));
+      done = each_place (λ (x : X). Done x new) all d (λ k inside. found.done k (omega arith));
     }

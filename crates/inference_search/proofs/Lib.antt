@@ -1,4 +1,3 @@
-pub mod Free
 pub mod Saying
 pub mod Finding
 pub mod Choosing

@@ -1,6 +1,5 @@
 -- What is found is all that is to be found, and no more.
 use Rattle.std.proofs.Common.{◌≡◌, ◌⊎◌, inl, inr, ℕ, ◌<◌, List, [], length, Option, Some, None, slice_get, refl, sym, ap, subst, ◌∙◌}
-use Rattle.std.specs.List.{Contains}
 use Rattle.circuit_model.specs.declared.model.Cell.{Cell}
 use Rattle.circuit_model.specs.declared.model.Fact.{Fact}
 use Rattle.circuit_model.specs.declared.model.Instance.{Instance}
@@ -8,19 +7,19 @@ use Rattle.circuit_model.specs.declared.model.Assumption.{Assumption}
 use Rattle.circuit_model.specs.declared.model.Assumption.TheVariants.{Part}
 use Rattle.circuit_model.specs.Closure.{fact, AreHeld}
 use Rattle.environment_sets.specs.Lists.{IsIn}
-use Rattle.propagation.specs.Propagating.{Leads, IsKnownAt}
+use Rattle.propagation.specs.Propagating.{RecordedInference, Leads, IsKnownAt, HasInference, IsEither}
 use Rattle.inference_search.specs.declared.inferred.Inferred.{Inferred}
-use Rattle.inference_search.specs.Slots.{stock}
-use Rattle.inference_search.specs.Inferences.{facts, inference}
+use Rattle.assumption_slots.specs.Slots.{stock}
+use Rattle.inference_search.specs.Inferences.{facts, inference, RecordedIn}
 use Rattle.inference_search.specs.Choices.{Finds, IsTold, IsMadeAt, IsMadeAtSome, IsDoneAt, clash_of, IsClashOf, HasClashOf}
 use Rattle.inference_search.specs.Found.{AreFound, AreMadeBy}
 use Rattle.inference_search.proofs.Trying.{same_fact}
-use Rattle.inference_search.proofs.Remembering.{stock_within}
+use Rattle.assumption_slots.proofs.Remembered.{stock_within}
 
--- known words that use the fact are from the fact and what is alive at other cells
-held_from : (alive from : List Fact) (f : Fact) → IsIn from f → ((g : Fact) → IsIn alive g → (g.cell ≡ f.cell) ⊎ IsIn from g)
-    → (cells : List Cell) (known : List (Option ℕ)) → AreHeld (λ g. IsIn alive g ⊎ (g ≡ f)) cells known → IsKnownAt cells known f → AreHeld (IsIn from) cells known
-held_from alive from f has others cells known held used = record {
+-- known words that use the fact are from the fact and what is met at other cells
+held_from : (met from : List Fact) (f : Fact) → IsIn from f → ((g : Fact) → IsIn met g → (g.cell ≡ f.cell) ⊎ IsIn from g)
+    → (cells : List Cell) (known : List (Option ℕ)) → AreHeld (λ g. IsIn met g ⊎ (g ≡ f)) cells known → IsKnownAt cells known f → AreHeld (IsIn from) cells known
+held_from met from f has others cells known held used = record {
   wide = held.wide;
   held = λ p v c e d. elim (held.held p v c e d) [
     | inl h ↦ elim (others (fact c v) h) [ inl one ↦ at_cell p v c e d one | inr h ↦ h ]
@@ -52,8 +51,8 @@ clash_leads slots f i (g, one, differ, is) = subst P (sym is) (
   P : Inferred → Type 0
   P i = IsIn (facts i.first i.second) f × Leads (stock slots) (facts i.first i.second) i.maker i.to
 
-module _ (slots : List (Option Assumption)) (alive from : List Fact) (f : Fact) (has : IsIn from f) (others : (g : Fact) → IsIn alive g → (g.cell ≡ f.cell) ⊎ IsIn from g)
-    (mid new : List Inferred) (clashes : Finds (IsClashOf f) (λ found. (g : Fact) → IsIn alive g → HasClashOf f g found) [] mid)
+module _ (slots : List (Option Assumption)) (met from : List Fact) (f : Fact) (has : IsIn from f) (others : (g : Fact) → IsIn met g → (g.cell ≡ f.cell) ⊎ IsIn from g)
+    (mid new : List Inferred) (clashes : Finds (IsClashOf f) (λ found. (g : Fact) → IsIn met g → HasClashOf f g found) [] mid)
     (made : Finds (IsMadeAtSome slots (Some f)) (λ found. (slot : ℕ) → slot < length slots → IsDoneAt slots from (Some f) slot found) mid new)
   where
     both : (i : Inferred) → IsIn new i → IsIn (facts i.first i.second) f × Leads (stock slots) (facts i.first i.second) i.maker i.to
@@ -62,37 +61,56 @@ module _ (slots : List (Option Assumption)) (alive from : List Fact) (f : Fact) 
       | inr q ↦ (q.1.uses, q.1.leads)
     ]
 
-    told : (k : ℕ) (part : List Instance) (instance : Instance) (known : List (Option ℕ)) → stock slots k ≡ Some (Part part) → Contains part instance
-        → AreHeld (λ g. IsIn alive g ⊎ (g ≡ f)) instance.cells known → IsKnownAt instance.cells known f → IsTold k instance known new
+    told : (k : ℕ) (part : List Instance) (instance : Instance) (known : List (Option ℕ)) → stock slots k ≡ Some (Part part) → IsIn part instance
+        → AreHeld (λ g. IsIn met g ⊎ (g ≡ f)) instance.cells known → IsKnownAt instance.cells known f → IsTold k instance known new
     told k part instance known s of_part held used =
-        made.done k (stock_within slots k (Part part) s) part s instance of_part known (held_from alive from f has others instance.cells known held used) used
+        made.done k (stock_within slots k (Part part) s) part s instance of_part known (held_from met from f has others instance.cells known held used) used
 
-    pub all_found : AreFound slots alive f new
+    -- the clash of the fact with another word that was met at its cell
+    clash_found : (c : Cell) (v w : ℕ) → (v ≡ w → ⊥) → f ≡ fact c v → IsIn met (fact c w) → IsIn new (clash_of f (fact c w))
+    clash_found c v w differ same there =
+        made.stays _ (clashes.done (fact c w) there (sym (ap (λ (g : Fact). g.cell) same)) (λ e. differ (sym (e ∙ ap (λ (g : Fact). g.value) same))))
+
+    -- two words at a cell, one of which is the fact
+    two : (c : Cell) (v w : ℕ) → (v ≡ w → ⊥) → f ≡ fact c v → IsIn met (fact c w) ⊎ (fact c w ≡ f) → HasInference (RecordedIn new) None None (IsEither (fact c v) (fact c w))
+    two c v w differ same (inl there) = (
+      inference (clash_of f (fact c w)),
+      (clash_of f (fact c w), clash_found c v w differ same there, refl),
+      refl,
+      refl,
+      λ g h. elim h [ inl e ↦ inl (sym e ∙ same) | inr h ↦ elim h [ inl e ↦ inr (sym e) | inr h ↦ absurd h ] ],
+    )
+    two c v w differ same (inr e) = absurd (differ (sym (ap (λ (g : Fact). g.value) (e ∙ same))))
+
+    turned : (c : Cell) (v w : ℕ) → HasInference (RecordedIn new) None None (IsEither (fact c w) (fact c v)) → HasInference (RecordedIn new) None None (IsEither (fact c v) (fact c w))
+    turned c v w j = (j.0, j.1, j.2, j.3, λ g h. elim (j.4 g h) [ inl e ↦ inr e | inr e ↦ inl e ])
+
+    pub all_found : AreFound slots met f new
     all_found = record {
       uses = λ i h. (both i h).0;
-      leads = λ i h. (both i h).1;
-      all = record {
-        forced = λ k part instance known p v c s of_part held used e forces. (told k part instance known s of_part held used).forced p v c e forces;
-        refuted = λ k part instance known s of_part held used r. (told k part instance known s of_part held used).refuted r;
-        two_words = λ w differ there. elim there [
-          | inl h ↦ (
-            inference (clash_of f (fact f.cell w)),
-            (clash_of f (fact f.cell w), made.stays _ (clashes.done (fact f.cell w) h refl differ), refl),
-            refl,
-            refl,
-            λ g h. elim h [ inl e ↦ inr (sym e) | inr h ↦ elim h [ inl e ↦ inl (sym e) | inr h ↦ absurd h ] ],
-          )
-          | inr e ↦ absurd (differ (ap (λ (g : Fact). g.value) e))
+      are = record {
+        leads = λ j r. let P : RecordedInference → Type 0 = λ i. Leads (stock slots) i.from i.maker i.to in subst P r.2 (both r.0 r.1).1;
+        forced = λ k part instance known p v c s of_part used held e forces. (told k part instance known s of_part held used).forced p v c e forces;
+        refuted = λ k part instance known s of_part used held r. (told k part instance known s of_part held used).refuted r;
+        two_words = λ c v w differ used low high. elim used [
+          | inl same ↦ two c v w differ same high
+          | inr same ↦ turned c v w (two c w v (λ e. differ (sym e)) same low)
         ];
       };
     }
 
-pub all_made_by : (slots : List (Option Assumption)) (alive : List Fact) (slot : ℕ) (new : List Inferred) → Finds (IsMadeAt slots None slot) (IsDoneAt slots alive None slot) [] new → AreMadeBy slots alive slot new
-all_made_by slots alive slot new made = record {
+pub all_made_by : (slots : List (Option Assumption)) (met : List Fact) (slot : ℕ) (new : List Inferred) → Finds (IsMadeAt slots None slot) (IsDoneAt slots met None slot) [] new → AreMadeBy slots met slot new
+all_made_by slots met slot new made = record {
   maker = λ i h. (each i h).maker;
-  leads = λ i h. (each i h).leads;
-  forced = λ part instance known p v c s of_part held e forces. (made.done part s instance of_part known held tt).forced p v c e forces;
-  refuted = λ part instance known s of_part held r. (made.done part s instance of_part known held tt).refuted r;
+  are = record {
+    leads = λ j r. let P : RecordedInference → Type 0 = λ i. Leads (stock slots) i.from i.maker i.to in subst P r.2 (each r.0 r.1).leads;
+    forced = λ k part instance known p v c s of_part by held e forces. rw by ((made.done part (here k part by s) instance of_part known held tt).forced p v c e forces);
+    refuted = λ k part instance known s of_part by held r. rw by ((made.done part (here k part by s) instance of_part known held tt).refuted r);
+    two_words = λ c v w differ by low high. absurd (cc);
+  };
 } where
   each : (i : Inferred) → IsIn new i → IsMadeAt slots None slot i
   each i h = elim (made.only i h) [ inl h ↦ absurd h | inr q ↦ q ]
+
+  here : (k : ℕ) (part : List Instance) → Some k ≡ Some slot → stock slots k ≡ Some (Part part) → stock slots slot ≡ Some (Part part)
+  here k part by s = let same : k ≡ slot = cc in let P : ℕ → Type 0 = λ n. stock slots n ≡ Some (Part part) in subst P same s

@@ -8,7 +8,7 @@ use Rattle.circuit_model.specs.Closure.{fact, AreHeld}
 use Rattle.environment_sets.specs.Lists.{IsIn}
 use Rattle.inference_search.specs.declared.inferred.Inferred.{Inferred}
 use Rattle.inference_search.specs.Choices.{AreAlike, Uses, IsTold, AreAllDone, IsDoneFrom, AreTries, AreChoices}
-use Rattle.inference_search.proofs.Saying.{Forces-ports}
+use Rattle.circuit_model.proofs.Inferences.{Forces-of_ports}
 
 pub same_fact : (f g : Fact) → f.cell ≡ g.cell → f.value ≡ g.value → f ≡ g
 same_fact f g c v = ap (λ (c : Cell). fact c f.value) c ∙ ap (λ (v : ℕ). fact g.cell v) v
@@ -42,6 +42,6 @@ module _
 
     pub done_from_all : IsDoneFrom slot from must instance found
     done_from_all known held uses = record {
-      forced = λ p v c e f. (told_at known held held.wide uses (Forces-ports instance.prim instance.widths known p v f)).forced p v c e f;
+      forced = λ p v c e f. (told_at known held held.wide uses (Forces-of_ports instance.prim instance.widths known p v f)).forced p v c e f;
       refuted = λ r. (told_at known held held.wide uses r.within).refuted r;
     }

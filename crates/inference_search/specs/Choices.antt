@@ -1,6 +1,5 @@
 -- What known words at the ports of an instance come to.
 use Rattle.std.specs.Prelude.{◌≡◌, ◌⊎◌, ℕ, ◌<◌, ◌^◌, List, [], ◌∷◌, Option, Some, None, slice_get}
-use Rattle.std.specs.List.{Contains}
 use Rattle.circuit_model.specs.declared.model.Cell.{Cell}
 use Rattle.circuit_model.specs.declared.model.Fact.{Fact}
 use Rattle.circuit_model.specs.declared.model.Instance.{Instance}
@@ -10,9 +9,9 @@ use Rattle.circuit_model.specs.Inference.{Forces, Refutes}
 use Rattle.circuit_model.specs.Closure.{fact, AreHeld}
 use Rattle.circuit_model.specs.Stock.{Stock}
 use Rattle.environment_sets.specs.Lists.{IsIn}
-use Rattle.propagation.specs.Propagating.{Inference, Leads, IsKnownAt}
+use Rattle.propagation.specs.Propagating.{Leads, IsKnownAt, HasInference}
 use Rattle.inference_search.specs.declared.inferred.Inferred.{Inferred}
-use Rattle.inference_search.specs.Slots.{stock}
+use Rattle.assumption_slots.specs.Slots.{stock}
 use Rattle.inference_search.specs.Inferences.{facts, RecordedIn}
 
 -- one of the three is the fact
@@ -72,50 +71,49 @@ HasForcedWord cells forced clash p found = (v : ℕ) (c : Cell) → slice_get ce
 pub record IsMade (slot : ℕ) (instance : Instance) (must : Option Fact) (i : Inferred) : Type 0 where
   pub maker : i.maker ≡ Some slot
   pub uses : GoesFrom must (facts i.first i.second)
-  pub leads : (S : Stock ℕ) (part : List Instance) → S slot ≡ Some (Part part) → Contains part instance → Leads S (facts i.first i.second) i.maker i.to
+  pub leads : (S : Stock ℕ) (part : List Instance) → S slot ≡ Some (Part part) → IsIn part instance → Leads S (facts i.first i.second) i.maker i.to
 
 -- an inference from the known words to the target is found
 abbrev pub IsToldOf : ℕ → List Cell → List (Option ℕ) → List Inferred → Option Fact → Type 0
-IsToldOf slot cells known found to =
-    (j : Inference) × RecordedIn found j × (j.to ≡ to) × (j.maker ≡ Some slot) × ((f : Fact) → IsIn j.from f → IsKnownAt cells known f)
+IsToldOf slot cells known found to = HasInference (RecordedIn found) to (Some slot) (IsKnownAt cells known)
 
 -- what the known words say is found
 pub record IsTold (slot : ℕ) (instance : Instance) (known : List (Option ℕ)) (found : List Inferred) : Type 0 where
   pub forced : (p v : ℕ) (c : Cell) → slice_get instance.cells p ≡ Some c → Forces instance.prim instance.widths known p v → IsToldOf slot instance.cells known found (Some (fact c v))
   pub refuted : Refutes instance.prim instance.widths known → IsToldOf slot instance.cells known found None
 
--- so, where they use the fact and there are no two words at one cell
+-- what the known words say is found, where they use the fact and no two words are known at one cell
 abbrev pub IsDone : ℕ → Instance → Option Fact → List (Option ℕ) → List Inferred → Type 0
 IsDone slot instance must known found = AreAlike instance.cells known → Uses must instance.cells known → IsTold slot instance known found
 
--- so for each third choice after these two
+-- the same with these two words and each of the third ones
 abbrev pub AreThirdsDone : ℕ → Instance → Option Fact → List (Option ℕ) → Option ℕ → Option ℕ → List Inferred → Type 0
 AreThirdsDone slot instance must thirds a b found = (z : Option ℕ) → IsIn thirds z → IsDone slot instance must (a ∷ b ∷ z ∷ []) found
 
--- so for each second and third choice after this one
+-- the same with this word and each of the second and third ones
 abbrev pub AreSecondsDone : ℕ → Instance → Option Fact → List (Option ℕ) → List (Option ℕ) → Option ℕ → List Inferred → Type 0
 AreSecondsDone slot instance must seconds thirds a found = (b : Option ℕ) → IsIn seconds b → AreThirdsDone slot instance must thirds a b found
 
--- so for each choice
+-- the same with each of the first, second and third words
 abbrev pub AreAllDone : ℕ → Instance → Option Fact → List (Option ℕ) → List (Option ℕ) → List (Option ℕ) → List Inferred → Type 0
 AreAllDone slot instance must firsts seconds thirds found = (a : Option ℕ) → IsIn firsts a → AreSecondsDone slot instance must seconds thirds a found
 
--- so for all known words from the facts
+-- what known words say is found, for all known words that are among the facts and use the one that has to be used
 abbrev pub IsDoneFrom : ℕ → List Fact → Option Fact → Instance → List Inferred → Type 0
 IsDoneFrom slot from must instance found =
     (known : List (Option ℕ)) → AreHeld (IsIn from) instance.cells known → Uses must instance.cells known → IsTold slot instance known found
 
--- so for all instances of the component
+-- the same for each instance of the component
 abbrev pub IsDonePart : ℕ → List Fact → Option Fact → List Instance → List Inferred → Type 0
-IsDonePart slot from must part found = (instance : Instance) → Contains part instance → IsDoneFrom slot from must instance found
+IsDonePart slot from must part found = (instance : Instance) → IsIn part instance → IsDoneFrom slot from must instance found
 
--- so for the component at the slot, if there is one
+-- the same for the component at the slot, if there is one
 abbrev pub IsDoneAt : List (Option Assumption) → List Fact → Option Fact → ℕ → List Inferred → Type 0
 IsDoneAt slots from must slot found = (part : List Instance) → stock slots slot ≡ Some (Part part) → IsDonePart slot from must part found
 
 -- an inference of the component, by a slot that has it
 abbrev pub IsMadeOf : ℕ → List Instance → Option Fact → Inferred → Type 0
-IsMadeOf slot part must i = (instance : Instance) × Contains part instance × IsMade slot instance must i
+IsMadeOf slot part must i = (instance : Instance) × IsIn part instance × IsMade slot instance must i
 
 -- an inference of what is remembered, from the fact that has to be used
 pub record IsMadeAt (slots : List (Option Assumption)) (must : Option Fact) (slot : ℕ) (i : Inferred) : Type 0 where
@@ -134,7 +132,7 @@ pub record AreTries (from : List Fact) (cells : List Cell) (ports p : ℕ) (trie
   pub nothing : IsIn tries None
   pub words : (v : ℕ) → p < ports → IsIn from (fact cell v) → IsIn tries (Some v)
 
--- so at each place
+-- the same at each of the three places
 pub record AreChoices (from : List Fact) (cells : List Cell) (ports : ℕ) (firsts seconds thirds : List (Option ℕ)) : Type 0 where
   pub first : AreTries from cells ports 0 firsts
   pub second : AreTries from cells ports 1 seconds

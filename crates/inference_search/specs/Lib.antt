@@ -1,4 +1,3 @@
-pub mod Slots
 pub mod Inferences
 pub mod Choices
 pub mod Found

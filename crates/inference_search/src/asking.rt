@@ -1,20 +1,21 @@
 // What one choice of known words at an instance's ports says.
 
 ghost use Rattle.std.specs.Prelude.{◌≡◌, ℕ, IfOk, Some};
-ghost use Rattle.circuit_model.specs.Lawful.{IsLawful};
+ghost use Rattle.circuit_model.specs.Lawful.{IsLawfulInstance};
 ghost use Rattle.environment_sets.specs.Lists.{IsIn};
 ghost use Rattle.inference_search.specs.Choices.{Finds, IsForcedWord, HasForcedWord, to_fact, IsMade, IsDone};
 
 use crate::antecedents::{all_agree, antecedents_of, are_using, facts_at};
-use crate::consequences::{consequences, has_open_port};
+use crate::consequences::consequences;
 use crate::inferred::Inferred;
 use circuit_model::{Cell, Fact, Instance};
+use component_models::has_open_port;
 use std::alloc::AllocError;
 
 /// An instance of the component at a slot, and the fact that its inferences have to use, if there is one.
 #[derive(Clone, Copy)]
 pub struct Asking {
-    pub slot: u8,
+    pub slot: u16,
     pub instance: Instance,
     pub must: Option<Fact>,
 }
@@ -59,7 +60,7 @@ pub fn add_choice(
     asking: &Asking,
     known: [Option<u64>; 3],
 ) -> Result<(), AllocError>
-    requires { IsLawful asking.now.instance }
+    requires { IsLawfulInstance asking.now.instance }
     ensures { IfOk result (λ _. Finds (IsMade asking.now.slot asking.now.instance asking.now.must) (IsDone asking.now.slot asking.now.instance asking.now.must known) found.old.items found.new.items) }
 {
     let instance = &asking.instance;

@@ -2,7 +2,7 @@
 
 ghost use Rattle.std.specs.Prelude.{◌≡◌, ℕ, IsTrue, IfOk, Option, None, Some, slice_get};
 ghost use Rattle.circuit_model.specs.declared.model.Fact.{Fact};
-ghost use Rattle.circuit_model.specs.Lawful.{IsLawful};
+ghost use Rattle.circuit_model.specs.Lawful.{IsLawfulInstance};
 ghost use Rattle.circuit_model.specs.Closure.{fact};
 ghost use Rattle.environment_sets.specs.Lists.{IsIn};
 ghost use Rattle.inference_search.specs.Choices.{Finds, IsMade, AreThirdsDone, AreSecondsDone, AreAllDone, IsDoneFrom, AreChoices};
@@ -28,7 +28,7 @@ pub fn add_instance(
     facts: &[Fact],
     asking: &Asking,
 ) -> Result<(), AllocError>
-    requires { IsLawful asking.now.instance }
+    requires { IsLawfulInstance asking.now.instance }
     ensures { IfOk result (λ _. Finds (IsMade asking.now.slot asking.now.instance asking.now.must) (IsDoneFrom asking.now.slot facts.now asking.now.must asking.now.instance) found.old.items found.new.items) }
 {
     let instance = &asking.instance;
@@ -112,7 +112,7 @@ fn add_word_at(choices: &mut Vec<Option<u64>>, fact: Fact, cell: Cell) -> Result
 
 /// Adds what each choice says.
 fn try_all(found: &mut Vec<Inferred>, asking: &Asking, choices: &Choices) -> Result<(), AllocError>
-    requires { IsLawful asking.now.instance }
+    requires { IsLawfulInstance asking.now.instance }
     ensures { IfOk result (λ _. Finds (IsMade asking.now.slot asking.now.instance asking.now.must) (AreAllDone asking.now.slot asking.now.instance asking.now.must choices.now.first.items choices.now.second.items choices.now.third.items) found.old.items found.new.items) }
 {
     for first in &choices.first {
@@ -128,7 +128,7 @@ fn try_first(
     choices: &Choices,
     first: Option<u64>,
 ) -> Result<(), AllocError>
-    requires { IsLawful asking.now.instance }
+    requires { IsLawfulInstance asking.now.instance }
     ensures { IfOk result (λ _. Finds (IsMade asking.now.slot asking.now.instance asking.now.must) (AreSecondsDone asking.now.slot asking.now.instance asking.now.must choices.now.second.items choices.now.third.items first) found.old.items found.new.items) }
 {
     for second in &choices.second {
@@ -145,7 +145,7 @@ fn try_two(
     first: Option<u64>,
     second: Option<u64>,
 ) -> Result<(), AllocError>
-    requires { IsLawful asking.now.instance }
+    requires { IsLawfulInstance asking.now.instance }
     ensures { IfOk result (λ _. Finds (IsMade asking.now.slot asking.now.instance asking.now.must) (AreThirdsDone asking.now.slot asking.now.instance asking.now.must choices.now.third.items first second) found.old.items found.new.items) }
 {
     for third in &choices.third {

@@ -1,12 +1,13 @@
 // The inferences of what is remembered.
 
 ghost use Rattle.std.specs.Prelude.{ℕ, ◌<◌, IfOk, length};
+ghost use Rattle.environment_sets.specs.declared.environment.TheConstants.{SLOTS};
 ghost use Rattle.inference_search.specs.Choices.{Finds, IsMadeOf, IsDonePart, IsMadeAt, IsMadeAtSome, IsDoneAt};
 
 use crate::asking::Asking;
 use crate::choices::add_instance;
 use crate::inferred::Inferred;
-use crate::slots::Slots;
+use assumption_slots::Slots;
 use circuit_model::{Assumption, Fact, Part};
 use std::alloc::{AllocError, Global};
 
@@ -22,7 +23,7 @@ pub struct Search<'a> {
 fn add_part(
     search: &Search,
     found: &mut Vec<Inferred>,
-    slot: u8,
+    slot: u16,
     part: &Part,
 ) -> Result<(), AllocError>
     ensures { IfOk result (λ _. Finds (IsMadeOf slot part.now search.now.must) (IsDonePart slot search.now.facts.now search.now.must part.now) found.old.items found.new.items) }
@@ -43,8 +44,9 @@ pub fn add_slot(
     search: &Search,
     found: &mut Vec<Inferred>,
     slots: &Slots,
-    slot: u8,
+    slot: u16,
 ) -> Result<(), AllocError>
+    requires { slot < SLOTS }
     ensures { IfOk result (λ _. Finds (IsMadeAt slots.now search.now.must slot) (IsDoneAt slots.now search.now.facts.now search.now.must slot) found.old.items found.new.items) }
 {
     match slots.at(slot) {
@@ -62,7 +64,7 @@ pub fn add_slots(
     ensures { IfOk result (λ _. Finds (IsMadeAtSome slots.now search.now.must) (λ found. (slot : ℕ) → slot < length slots.now → IsDoneAt slots.now search.now.facts.now search.now.must slot found) found.old.items found.new.items) }
 {
     for slot in 0..slots.count() {
-        add_slot(search, found, slots, slot as u8)?;
+        add_slot(search, found, slots, slot as u16)?;
     }
     Ok(())
 }

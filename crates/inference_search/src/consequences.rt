@@ -2,26 +2,13 @@
 
 ghost use Rattle.std.specs.Prelude.{◌≡◌, ℕ, ◌<◌, ◌≤◌, ◌↔◌, IsTrue, MatchBool, Some, slice_get};
 ghost use Rattle.circuit_model.specs.Inference.{IsUsed, IsUnknownAt, IsInference};
-ghost use Rattle.circuit_model.specs.Lawful.{IsLawful};
+ghost use Rattle.circuit_model.specs.Lawful.{IsLawfulInstance};
 ghost use Rattle.component_models.specs.Asking.{WordsFit, HasOpenPort};
 ghost use Rattle.inference_search.specs.Choices.{IsMisfit};
 
 use circuit_model::{Instance, Prim};
 use component_models::{Inference, infer};
 use word_domain::Width;
-
-/// Whether no word is known at some port.
-pub fn has_open_port(ports: u8, known: [Option<u64>; 3]) -> bool
-    requires { ports ≤ 3 }
-    ensures { IsTrue result ↔ ((port : ℕ) × (port < ports) × IsUnknownAt known port) }
-{
-    for port in 0..ports {
-        if known[port as usize].is_none() {
-            return true;
-        }
-    }
-    false
-}
 
 /// Whether words are known at ports alone.
 fn are_at_ports(ports: u8, known: [Option<u64>; 3]) -> bool
@@ -63,7 +50,7 @@ fn are_used(prim: Prim, known: [Option<u64>; 3]) -> bool
 /// What the known words say, where words may be known past the ports, or not fit: these say nothing, and that no tuple
 /// of the relation has them.
 pub fn consequences(instance: &Instance, known: [Option<u64>; 3]) -> Inference
-    requires lawful { IsLawful instance.now }
+    requires lawful { IsLawfulInstance instance.now }
     requires open_port { HasOpenPort instance.now.prim known }
     ensures { IsInference instance.now.prim instance.now.widths known result.refuted result.forced }
 {

@@ -9,5 +9,5 @@ pub struct Inferred {
     pub first: Option<Fact>,
     pub second: Option<Fact>,
     pub to: Option<Fact>,
-    pub maker: Option<u8>,
+    pub maker: Option<u16>,
 }

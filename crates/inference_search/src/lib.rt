@@ -1,4 +1,4 @@
-// What is remembered by slot, and the inferences that its components make from known words.
+// The inferences that remembered components make from known words.
 #![tactic(auto)]
 
 mod antecedents;
@@ -8,11 +8,7 @@ mod components;
 mod consequences;
 mod inferred;
 mod search;
-mod slots;
 
+pub use antecedents::is_same_cell;
 pub use inferred::Inferred;
 pub use search::{find_made_by, find_uses};
-pub use slots::Slots;
-
-#[cfg(test)]
-mod tests;

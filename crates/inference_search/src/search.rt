@@ -1,7 +1,8 @@
 // The search for inferences.
 
-ghost use Rattle.std.specs.Prelude.{◌≡◌, ◌⊎◌, [], IfOk};
+ghost use Rattle.std.specs.Prelude.{◌≡◌, ◌⊎◌, ◌<◌, [], IfOk};
 ghost use Rattle.circuit_model.specs.declared.model.Fact.{Fact};
+ghost use Rattle.environment_sets.specs.declared.environment.TheConstants.{SLOTS};
 ghost use Rattle.environment_sets.specs.Lists.{IsIn};
 ghost use Rattle.inference_search.specs.Choices.{Finds, IsClashOf, HasClashOf};
 ghost use Rattle.inference_search.specs.Found.{AreFound, AreMadeBy};
@@ -9,22 +10,23 @@ ghost use Rattle.inference_search.specs.Found.{AreFound, AreMadeBy};
 use crate::antecedents::is_same_cell;
 use crate::components::{Search, add_slot, add_slots};
 use crate::inferred::Inferred;
-use crate::slots::Slots;
+use assumption_slots::Slots;
 use circuit_model::Fact;
 use std::alloc::{AllocError, Global};
 
-/// The inferences that use a fact: those of the remembered components from it and facts that are alive, and, first in
-/// the list, the clash with each other word that is alive at its cell. It may be alive itself or not.
+/// The inferences that use a fact (the consumers of de Kleer 1986): those of the remembered components from it and facts
+/// that were met, and, first in the list, the clash with each other word that was met at its cell. The fact may have
+/// been met itself or not. An error says that memory ran out; nothing outside is changed.
 pub fn find_uses(
     alloc: Global,
     slots: &Slots,
-    alive: &[Fact],
+    met: &[Fact],
     fact: Fact,
 ) -> Result<Vec<Inferred>, AllocError>
-    ensures { IfOk result (λ found. AreFound slots.now alive.now fact found.items) }
+    ensures { IfOk result (λ found. AreFound slots.now met.now fact found.items) }
 {
-    let facts = facts_with(alloc, alive, fact)?;
-    let mut found = clashes(alloc, alive, fact)?;
+    let facts = facts_with(alloc, met, fact)?;
+    let mut found = clashes(alloc, met, fact)?;
     let search = Search {
         alloc,
         facts: &facts,
@@ -34,42 +36,44 @@ pub fn find_uses(
     Ok(found)
 }
 
-/// The inferences that the component at a slot makes from facts that are alive, those from no fact too.
+/// The inferences that the component at a slot makes from facts that were met, those from no fact too. There are none
+/// where the slot is free or stands for a reading. An error says that memory ran out; nothing outside is changed.
 pub fn find_made_by(
     alloc: Global,
     slots: &Slots,
-    alive: &[Fact],
-    slot: u8,
+    met: &[Fact],
+    slot: u16,
 ) -> Result<Vec<Inferred>, AllocError>
-    ensures { IfOk result (λ found. AreMadeBy slots.now alive.now slot found.items) }
+    requires { slot < SLOTS }
+    ensures { IfOk result (λ found. AreMadeBy slots.now met.now slot found.items) }
 {
     let mut found = Vec::new(alloc);
     let search = Search {
         alloc,
-        facts: alive,
+        facts: met,
         must: None,
     };
     add_slot(&search, &mut found, slots, slot)?;
     Ok(found)
 }
 
-/// The fact, and those that are alive at other cells.
-fn facts_with(alloc: Global, alive: &[Fact], fact: Fact) -> Result<Vec<Fact>, AllocError>
+/// The fact, and those that were met at other cells.
+fn facts_with(alloc: Global, met: &[Fact], fact: Fact) -> Result<Vec<Fact>, AllocError>
     ensures fact { IfOk result (λ facts. IsIn facts.items fact) }
-    ensures others { IfOk result (λ facts. (g : Fact) → IsIn alive.now g → (g.cell ≡ fact.cell) ⊎ IsIn facts.items g) }
+    ensures others { IfOk result (λ facts. (g : Fact) → IsIn met.now g → (g.cell ≡ fact.cell) ⊎ IsIn facts.items g) }
 {
     let mut facts = Vec::new(alloc);
     facts.push(fact)?;
-    add_others(&mut facts, alive, fact)?;
+    add_others(&mut facts, met, fact)?;
     Ok(facts)
 }
 
-/// Adds those that are alive at other cells than the fact.
-fn add_others(facts: &mut Vec<Fact>, alive: &[Fact], fact: Fact) -> Result<(), AllocError>
+/// Adds those that were met at other cells than the fact.
+fn add_others(facts: &mut Vec<Fact>, met: &[Fact], fact: Fact) -> Result<(), AllocError>
     ensures stays { IfOk result (λ _. (g : Fact) → IsIn facts.old.items g → IsIn facts.new.items g) }
-    ensures others { IfOk result (λ _. (g : Fact) → IsIn alive.now g → (g.cell ≡ fact.cell) ⊎ IsIn facts.new.items g) }
+    ensures others { IfOk result (λ _. (g : Fact) → IsIn met.now g → (g.cell ≡ fact.cell) ⊎ IsIn facts.new.items g) }
 {
-    for other in alive {
+    for other in met {
         add_other(facts, *other, fact)?;
     }
     Ok(())
@@ -87,12 +91,12 @@ fn add_other(facts: &mut Vec<Fact>, other: Fact, fact: Fact) -> Result<(), Alloc
     Ok(())
 }
 
-/// The clashes of the fact with the other words that are alive at its cell.
-fn clashes(alloc: Global, alive: &[Fact], fact: Fact) -> Result<Vec<Inferred>, AllocError>
-    ensures { IfOk result (λ found. Finds (IsClashOf fact) (λ found. (g : Fact) → IsIn alive.now g → HasClashOf fact g found) [] found.items) }
+/// The clashes of the fact with the other words that were met at its cell.
+fn clashes(alloc: Global, met: &[Fact], fact: Fact) -> Result<Vec<Inferred>, AllocError>
+    ensures { IfOk result (λ found. Finds (IsClashOf fact) (λ found. (g : Fact) → IsIn met.now g → HasClashOf fact g found) [] found.items) }
 {
     let mut found = Vec::new(alloc);
-    for other in alive {
+    for other in met {
         add_clash(&mut found, fact, *other)?;
     }
     Ok(found)

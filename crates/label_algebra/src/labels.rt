@@ -2,14 +2,14 @@
 ghost use Rattle.std.specs.Prelude.{◌≡◌, ◌<◌, ◌↔◌, IsTrue, OnErr, IfSome, Some, Ok, []};
 ghost use Rattle.std.specs.Option.{ForSome, option_copied};
 ghost use Rattle.environment_sets.specs.Sets.{◌⊆◌};
-ghost use Rattle.environment_sets.specs.Members.{members, sets, HasMember};
+ghost use Rattle.environment_sets.specs.Members.{members, HasMember};
+ghost use Rattle.environment_sets.specs.Families.{IsCovered, IsAntichain, Adds, Drops, AreInside};
 ghost use Rattle.environment_sets.specs.Orders.{ListsAll, IsOrder};
 ghost use Rattle.environment_sets.specs.Walks.{GivesNextEnv, envs_left};
-ghost use Rattle.antichains.specs.Families.{Covers, Adds, Drops, IsAntichain};
 
-use antichains::{Antichain, Inserted, OutOfMemory};
+use antichains::{Antichain, Inserted};
 use environment_sets::{Env, SLOTS};
-use std::alloc::Global;
+use std::alloc::{AllocError, Global};
 use std::marker::Model;
 
 /// The label of a fact (de Kleer 1986): the environments under which it is known to hold, the minimal ones alone.
@@ -39,14 +39,21 @@ impl Label {
 
     /// Puts the environment in, unless a member is a subset of it, and drops the members that contain it.
     /// `Covered` takes no memory. After an error the members are as before.
-    pub fn insert(&mut self, env: Env) -> Result<Inserted, OutOfMemory>
-        ensures covered { (result ≡ Ok Inserted.Covered) ↔ Covers (HasMember self.old) (members env) }
+    pub fn insert(&mut self, env: Env) -> Result<Inserted, AllocError>
+        ensures covered { (result ≡ Ok Inserted.Covered) ↔ IsCovered (HasMember self.old) (members env) }
         ensures covered_same { (result ≡ Ok Inserted.Covered) → self.new ≡ self.old }
         ensures added { (result ≡ Ok Inserted.Added) → Adds (HasMember self.old) (HasMember self.new) (members env) }
         ensures err { OnErr result (self.new ≡ self.old) }
-        ensures antichain { IsAntichain (sets self.new) }
+        ensures antichain { IsAntichain (HasMember self.new) }
     {
         self.antichain.insert(env)
+    }
+
+    /// How many environments of the label are inside the mask.
+    pub fn count_inside(&self, mask: &Env) -> usize
+        ensures { AreInside (HasMember self.now) (members mask.now) result }
+    {
+        self.antichain.count_inside(mask)
     }
 
     /// The members, in no order that is told.
@@ -58,32 +65,31 @@ impl Label {
 
     /// Whether a member is a subset of the environment.
     pub fn covers(&self, env: &Env) -> bool
-        ensures covered { IsTrue result ↔ Covers (HasMember self.now) (members env.now) }
-        ensures antichain { IsAntichain (sets self.now) }
+        ensures { IsTrue result ↔ IsCovered (HasMember self.now) (members env.now) }
     {
         self.antichain.covers(env)
     }
 
-    /// Drops the members that have the slot.
+    /// Drops the members that have the slot, which is below [`SLOTS`]. It takes no memory.
     pub fn drop_slot(&mut self, slot: u16)
         requires { slot < SLOTS }
         ensures dropped { Drops (HasMember self.old) (HasMember self.new) (λ F. IsTrue (F slot)) }
-        ensures antichain { IsAntichain (sets self.new) }
+        ensures antichain { IsAntichain (HasMember self.new) }
     {
         self.antichain.drop_slot(slot);
     }
 
-    /// Drops the members that contain the nogood.
+    /// Drops the members that contain the nogood. It takes no memory.
     pub fn drop_over(&mut self, nogood: &Env)
         ensures dropped { Drops (HasMember self.old) (HasMember self.new) (λ F. members nogood.now ⊆ F) }
-        ensures antichain { IsAntichain (sets self.new) }
+        ensures antichain { IsAntichain (HasMember self.new) }
     {
         self.antichain.drop_over(nogood);
     }
 
     /// The first member that is inside the mask and comes after `last`, or after nothing: the first of all. Calls
     /// that are each given the answer before go through all members inside the mask, and the count of those that
-    /// are left falls from call to call.
+    /// are left falls from call to call. `order` has distinct slots, among them all of the mask and of `last`.
     pub fn next_after(&self, order: &[u16], mask: &Env, last: Option<&Env>) -> Option<Env>
         requires slots { IsOrder SLOTS order.now }
         requires mask_listed { ListsAll order.now (members mask.now) }

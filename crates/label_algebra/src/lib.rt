@@ -3,5 +3,5 @@
 
 mod labels;
 
-pub use antichains::{Inserted, OutOfMemory};
+pub use antichains::Inserted;
 pub use labels::Label;

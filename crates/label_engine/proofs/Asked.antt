@@ -1,35 +1,48 @@
 -- What is kept, of the assumptions of a mask alone.
-use Rattle.std.proofs.Common.{◌≡◌, ℕ, ◌+◌, Option, Some, None, List, sym, subst, arith}
+use Rattle.std.proofs.Common.{◌≡◌, ℕ, ◌+◌, Option, Some, None, List, sym, ap, subst, ◌∙◌, arith}
+use mathlib.Core.Path.{fun_ext}
 use Rattle.circuit_model.specs.declared.model.Cell.{Cell}
 use Rattle.circuit_model.specs.declared.model.Fact.{Fact}
 use Rattle.circuit_model.specs.Closure.{fact}
 use Rattle.circuit_model.specs.declared.model.Assumption.{Assumption}
-use Rattle.circuit_model.specs.Settled.{AreExact, IsCovered}
+use Rattle.circuit_model.specs.Settled.{AreExact}
 use Rattle.circuit_model.specs.Load.{IsLoad}
 use Rattle.circuit_model.specs.Stock.{IsInLabel, IsNogood, within}
 use Rattle.circuit_model.proofs.Settled as settled_is
 use Rattle.environment_sets.specs.declared.environment.Env.{Env}
-use Rattle.environment_sets.specs.Members.{members, HasMember}
+use Rattle.environment_sets.specs.Members.{HasMember}
 use Rattle.environment_sets.specs.Sets.{Set, ◌⊆◌}
+use Rattle.environment_sets.specs.Families.{AreInside}
 use Rattle.environment_sets.specs.Walks.{GivesNext}
 use Rattle.inference_search.specs.declared.inferred.Inferred.{Inferred}
-use Rattle.inference_search.specs.Slots.{stock}
-use Rattle.label_engine.specs.declared.labels.Node.{Node}
-use Rattle.label_engine.specs.declared.labels.Labels.{Labels}
-use Rattle.label_engine.specs.Engine.{Seen, label_at, IsRemembering}
-use Rattle.label_engine.specs.Labels.{KeptIn, label_of}
+use Rattle.assumption_slots.specs.Slots.{stock}
+use Rattle.label_engine.specs.declared.nodes.Node.{Node}
+use Rattle.label_engine.specs.declared.nodes.Nodes.{Nodes}
+use Rattle.label_engine.specs.Engine.{Kept, Seen, label_of, label_at, kept_of}
+use Rattle.label_engine.specs.Nodes.{KeptIn, label_in}
+use Rattle.label_engine.specs.Update.{AreUpToDate}
 use Rattle.label_engine.proofs.Masks.{label_within, nogood_within, next_alike}
-use Rattle.label_engine.specs.Questions.{IsAbove, GivesNextNumber, HasInside, HasLabel, AreInside, ArePairs}
-use Rattle.label_engine.proofs.Values.{covers_is, is_covers_of, next_number_alike}
+use Rattle.label_engine.specs.Questions.{GivesNextNumber, HasInside, HasLabel, ArePairs}
+use Rattle.label_engine.proofs.Kept.{label_of_nodes}
+use Rattle.label_engine.proofs.Values.{next_number_alike}
 
-abbrev pub seen : List (Option Assumption) → Labels → Seen
-seen slots labels = record { slots = slots; nodes = labels.nodes.items; nogoods = labels.nogoods }
+abbrev pub seen : List (Option Assumption) → Nodes → Seen
+seen slots labels = record { slots = slots; kept = kept_of labels.list.items; nogoods = labels.nogoods }
 
 abbrev pub IsExact : Seen → Type 0
 IsExact e = AreExact (stock e.slots) (label_at e) (HasMember e.nogoods)
 
-pub is_exact : (slots : List (Option Assumption)) (labels : Labels) (recorded : List Inferred) → IsRemembering slots labels recorded → (e : Seen) → seen slots labels ≡ e → IsExact e
-is_exact slots labels recorded remembering e same = subst IsExact same (settled_is.exact (stock slots) (λ f. KeptIn labels (Some f)) (KeptIn labels None) remembering.settled)
+-- what is settled is exact
+pub is_exact : (slots : List (Option Assumption)) (labels : Nodes) (recorded : List Inferred) → AreUpToDate (stock slots) labels recorded → (e : Seen) → seen slots labels ≡ e → IsExact e
+is_exact slots labels recorded up_to_date e same =
+    let P : (Fact → List Env) → Type 0 = λ label. AreExact (stock slots) (λ f. HasMember (label f)) (HasMember labels.nogoods) in
+    let nodes : List Node = labels.list.items in
+    let label : label_of (kept_of nodes) ≡ label_in nodes = fun_ext (λ f. label_of_nodes nodes up_to_date.once f) in
+    subst IsExact same (subst P (sym label) (settled_is.exact (stock slots) (λ f. KeptIn labels (Some f)) (KeptIn labels None) up_to_date.settled))
+
+-- the label of a fact that was met, or not
+pub label_is : (slots : List (Option Assumption)) (labels : Nodes) (recorded : List Inferred) → AreUpToDate (stock slots) labels recorded → (e : Seen) → seen slots labels ≡ e → (f : Fact) → label_in labels.list.items f ≡ label_of e.kept f
+label_is slots labels recorded up_to_date e same f = sym (label_of_nodes labels.list.items up_to_date.once f) ∙ ap (λ (s : Seen). label_of s.kept f) same
 
 module _ (e : Seen) (exact : IsExact e) (M : Set ℕ) where
   pub label_inside : (f : Fact) (E : Set ℕ) → E ⊆ M → label_at e f E → IsInLabel (within M (stock e.slots)) f E
@@ -46,7 +59,7 @@ module _ (e : Seen) (exact : IsExact e) (M : Set ℕ) where
 
   -- the next of what is kept is the next over the assumptions of the mask
   pub next_in_label :
-      (f : Fact) (es : List Env) → es ≡ label_of e.nodes f → (order : List ℕ) (last next : Option (Set ℕ)) → GivesNext order (HasMember es) M last next
+      (f : Fact) (es : List Env) → es ≡ label_of e.kept f → (order : List ℕ) (last next : Option (Set ℕ)) → GivesNext order (HasMember es) M last next
       → GivesNext order (IsInLabel (within M (stock e.slots)) f) M last next
   next_in_label f es same order last next gives =
       let P : List Env → Type 0 = λ l. GivesNext order (HasMember l) M last next in
@@ -60,41 +73,27 @@ module _ (e : Seen) (exact : IsExact e) (M : Set ℕ) where
       next_alike order (HasMember e.nogoods) (IsNogood (within M (stock e.slots))) M nogood_inside (λ E _ h. (inside_nogood E h).0) last next (subst P same gives)
 
   -- the next word of which an environment is kept inside the mask is the next that has a label over its assumptions
-  pub next_word :
-      (nodes : List Node) → nodes ≡ e.nodes → (c : Cell) (mask : Env) → members mask ≡ M → (last next : Option ℕ) → GivesNextNumber (HasInside nodes c mask) last next
-      → GivesNextNumber (HasLabel (within M (stock e.slots)) c) last next
-  next_word nodes same c mask there last next gives =
-      let P : List Node → Type 0 = λ ns. GivesNextNumber (HasInside ns c mask) last next in
-      next_number_alike (HasInside e.nodes c mask) (HasLabel (within M (stock e.slots)) c) last to from next (subst P same gives)
-    where
-      to : (v : ℕ) → IsAbove last v → HasInside e.nodes c mask v → HasLabel (within M (stock e.slots)) c v
-      to v _ h =
-          let E : IsCovered (label_at e (fact c v)) (members mask) = covers_is (label_of e.nodes (fact c v)) (members mask) h in
-          (E.0, label_inside (fact c v) E.0 (subst (λ (F : Set ℕ). E.0 ⊆ F) there E.2) E.1)
-
-      from : (v : ℕ) → IsAbove last v → HasLabel (within M (stock e.slots)) c v → HasInside e.nodes c mask v
-      from v _ h =
-          let kept : label_at e (fact c v) h.0 × (h.0 ⊆ M) = inside_label (fact c v) h.0 h.1 in
-          is_covers_of (label_of e.nodes (fact c v)) (members mask) (h.0, kept.0, subst (λ (F : Set ℕ). h.0 ⊆ F) (sym there) kept.1)
+  pub next_word : (kept : List Kept) → kept ≡ e.kept → (c : Cell) (last next : Option ℕ) → GivesNextNumber (HasInside kept c M) last next → GivesNextNumber (HasLabel (within M (stock e.slots)) c) last next
+  next_word kept same c last next gives =
+      let P : List Kept → Type 0 = λ ks. GivesNextNumber (HasInside ks c M) last next in
+      next_number_alike (HasInside e.kept c M) (HasLabel (within M (stock e.slots)) c) last
+      (λ v _ h. (h.0, label_inside (fact c v) h.0 h.2 h.1))
+      (λ v _ h. let r : label_at e (fact c v) h.0 × (h.0 ⊆ M) = inside_label (fact c v) h.0 h.1 in (h.0, r.0, r.1))
+      next (subst P same gives)
 
   -- what is counted inside the mask is the load of its assumptions
-  pub load_of :
-      (nodes : List Node) → nodes ≡ e.nodes → (nogoods : List Env) → nogoods ≡ e.nogoods → (n k : ℕ) → ArePairs nodes M n → AreInside (HasMember nogoods) M k
-      → IsLoad (within M (stock e.slots)) (n + k)
-  load_of nodes same nogoods same_nogoods n k pairs inside =
-      let P : List Node → Type 0 = λ ns. ArePairs ns M n in
+  pub load_of : (nodes : List Node) → ((f : Fact) → label_in nodes f ≡ label_of e.kept f) → (nogoods : List Env) → nogoods ≡ e.nogoods → (n k : ℕ) → ArePairs nodes M n → AreInside (HasMember nogoods) M k → IsLoad (within M (stock e.slots)) (n + k)
+  load_of nodes same nogoods same_nogoods n k p inside =
       let Q : List Env → Type 0 = λ es. AreInside (HasMember es) M k in
-      of (subst P same pairs) (subst Q same_nogoods inside)
-    where
-      of : ArePairs e.nodes M n → AreInside (HasMember e.nogoods) M k → IsLoad (within M (stock e.slots)) (n + k)
-      of p g = record {
+      let g : AreInside (HasMember e.nogoods) M k = subst Q same_nogoods inside in
+      record {
         pairs = p.pairs;
         nogoods = g.inside;
         pairs_exact = record {
           distinct = p.exact.distinct;
           exact = λ q. (
-            λ h. let kept : label_at e q.0 q.1 × (q.1 ⊆ M) = (p.exact.exact q).0 h in label_inside q.0 q.1 kept.1 kept.0,
-            λ h. (p.exact.exact q).1 (inside_label q.0 q.1 h),
+            λ h. let there : HasMember (label_in nodes q.0) q.1 × (q.1 ⊆ M) = (p.exact.exact q).0 h in label_inside q.0 q.1 there.1 (let P : List Env → Type 0 = λ es. HasMember es q.1 in subst P (same q.0) there.0),
+            λ h. let there : label_at e q.0 q.1 × (q.1 ⊆ M) = inside_label q.0 q.1 h in (p.exact.exact q).1 (let P : List Env → Type 0 = λ es. HasMember es q.1 in subst P (sym (same q.0)) there.0, there.1),
           );
         };
         nogoods_exact = record {

@@ -1,5 +1,7 @@
 -- The stock without the slot, and what begins an assumption at the slot.
 use Rattle.std.proofs.Common.{◌≡◌, ◌≢◌, ℕ, zero, ◌⊎◌, inl, inr, Bool, true, false, ◌==◌, cond, IsTrue, IsFalse, true≢false, refl, sym, ap, subst, ◌∙◌, List, [], ◌∷◌, ◌++◌, map, filter, Option, Some, None, IsSome, append_assoc, append-nil, ◌+◌, ◌<◌, length, take, get_or, arith}
+use Rattle.environment_sets.proofs.Listings.{IsIn-filter, IsIn-kept}
+use Rattle.environment_sets.proofs.Membership.{IsIn-append, IsIn-left, IsIn-map, IsIn-right, map-IsIn}
 use Rattle.std.specs.Option.{option_or, is_none}
 use Rattle.std.proofs.lemmas.Bool.Decides.{nat_tests}
 use Rattle.std.proofs.lemmas.List.{take_more}
@@ -8,28 +10,27 @@ use Rattle.circuit_model.specs.declared.model.Instance.{Instance}
 use Rattle.circuit_model.specs.declared.model.Assumption.{Assumption}
 use Rattle.circuit_model.specs.declared.model.Assumption.TheVariants.{Part, Reading}
 use Rattle.circuit_model.specs.Stock.{Stock, IsEnvironment, Has}
-use Rattle.circuit_model.specs.Settled.{IsCovered}
+use Rattle.environment_sets.specs.Families.{IsCovered}
 use Rattle.circuit_model.specs.Laws.{HasOneMore}
 use Rattle.environment_sets.specs.declared.environment.Env.{Env}
 use Rattle.environment_sets.specs.Sets.{Set, ◌⊆◌, only}
 use Rattle.environment_sets.specs.Members.{members, HasMember}
 use Rattle.environment_sets.specs.Lists.{IsIn}
-use Rattle.propagation.specs.Propagating.{Target, Inference, HasAt, Leads, HasMaker, AreChosen, SomeWaits, IsDue, IsSound, AreRecorded, IsPendingSound, IsWaitingSound, IsPropagating}
+use Rattle.propagation.specs.Propagating.{Target, RecordedInference, HasAt, HasMaker, AreChosen, SomeWaits, IsDue, IsSound, HasInference, All, AreRecorded, IsPendingSound, IsWaitingSound, IsPropagating}
 use Rattle.propagation.proofs.Start.{NoItem, start_reading, start_part, choice_reached, sound_of_settled}
 use Rattle.propagation.proofs.Entry.{leads_more, sound_more}
 use Rattle.propagation.proofs.Unions.{leads_on}
 use Rattle.propagation.proofs.Whole as whole
-use Rattle.label_engine.specs.declared.labels.Node.{Node}
-use Rattle.label_engine.specs.declared.labels.Due.{Due}
-use Rattle.label_engine.specs.declared.work.Item.{Item}
-use Rattle.label_engine.specs.declared.work.Work.{Work}
-use Rattle.label_engine.specs.Labels.{facts_of, label_of, KeptIn}
-use Rattle.label_engine.specs.Work.{before, DueIn, WaitsIn, Holds, IsExactBefore, some_fact, goes_from_none, due_with, item_at, items_with, items_from}
+use Rattle.label_engine.specs.declared.nodes.Node.{Node}
+use Rattle.label_engine.specs.declared.nodes.Insertion.{Insertion}
+use Rattle.label_engine.specs.declared.update.Pending.{Pending}
+use Rattle.label_engine.specs.declared.update.Update.{Update}
+use Rattle.label_engine.specs.Nodes.{facts_of, label_in, KeptIn}
+use Rattle.label_engine.specs.Update.{before, DueIn, WaitsIn, Holds, IsAtRest, some_fact, goes_from_none, due_with, item_at, items_with, items_from}
 use Rattle.inference_search.specs.declared.inferred.Inferred.{Inferred}
-use Rattle.inference_search.specs.Slots.{stock}
+use Rattle.assumption_slots.specs.Slots.{stock}
 use Rattle.inference_search.specs.Inferences.{facts, inference, RecordedIn}
 use Rattle.inference_search.specs.Found.{AreMadeBy}
-use Rattle.label_engine.proofs.Families.{in_front, in_back, in_either, in_map, of_map, in_filter, of_filter}
 
 pub decide : (slot k : ℕ) → (k ≡ slot) ⊎ (k ≢ slot)
 decide slot k =
@@ -64,39 +65,39 @@ module _ (slots : List (Option Assumption)) (slot : ℕ) where
       ] refl
 
 -- the items with which the inferences begin: each environment of one of the facts of each
-pub in_items : (nodes : List Node) (is : List Inferred) (i : Inferred) (f : Fact) (E : Set ℕ) → IsIn is i → some_fact i ≡ Some f → HasMember (label_of nodes f) E → (x : Item) × IsIn (items_from nodes is) x × (x.inferred ≡ i) × (x.at ≡ f) × (members x.env ≡ E)
+pub in_items : (nodes : List Node) (is : List Inferred) (i : Inferred) (f : Fact) (E : Set ℕ) → IsIn is i → some_fact i ≡ Some f → HasMember (label_in nodes f) E → (x : Pending) × IsIn (items_from nodes is) x × (x.inferred ≡ i) × (x.at ≡ f) × (members x.env ≡ E)
 in_items nodes [] i f E h e k = absurd h
 in_items nodes (j ∷ is) i f E (inl same) e k =
-    let env : (env : Env) × IsIn (label_of nodes f) env × (members env ≡ E) = of_map members (label_of nodes f) E k in
-    let x : Item = item_at f env.0 i in
+    let env : (env : Env) × IsIn (label_in nodes f) env × (members env ≡ E) = IsIn-map members (label_in nodes f) E k in
+    let x : Pending = item_at f env.0 i in
     let at : some_fact j ≡ Some f = ap some_fact same ∙ e in
-    let here : IsIn (items_with nodes j (Some f)) x = (let P : Inferred → Type 0 = λ y. IsIn (items_with nodes y (Some f)) x in subst P (sym same) (in_map (λ d. item_at f d i) (label_of nodes f) env.0 env.1)) in
+    let here : IsIn (items_with nodes j (Some f)) x = (let P : Inferred → Type 0 = λ y. IsIn (items_with nodes y (Some f)) x in subst P (sym same) (map-IsIn (λ d. item_at f d i) (label_in nodes f) env.0 env.1)) in
     let P : Option Fact → Type 0 = λ o. IsIn (items_with nodes j o ++ items_from nodes is) x in
-    (x, subst P (sym at) (in_front (items_with nodes j (Some f)) (items_from nodes is) x here), refl, refl, env.2)
+    (x, subst P (sym at) (IsIn-left (items_with nodes j (Some f)) (items_from nodes is) x here), refl, refl, env.2)
 in_items nodes (j ∷ is) i f E (inr later) e k =
-    let r : (x : Item) × IsIn (items_from nodes is) x × (x.inferred ≡ i) × (x.at ≡ f) × (members x.env ≡ E) = in_items nodes is i f E later e k in
-    (r.0, in_back (items_with nodes j (some_fact j)) (items_from nodes is) r.0 r.1, r.2, r.3, r.4)
+    let r : (x : Pending) × IsIn (items_from nodes is) x × (x.inferred ≡ i) × (x.at ≡ f) × (members x.env ≡ E) = in_items nodes is i f E later e k in
+    (r.0, IsIn-right (items_with nodes j (some_fact j)) (items_from nodes is) r.0 r.1, r.2, r.3, r.4)
 
 -- what an item of the list is
-pub record IsItemFrom (nodes : List Node) (is : List Inferred) (x : Item) : Type 0 where
+pub record IsItemFrom (nodes : List Node) (is : List Inferred) (x : Pending) : Type 0 where
   pub found : IsIn is x.inferred
   pub at_fact : some_fact x.inferred ≡ Some x.at
-  pub kept : HasMember (label_of nodes x.at) (members x.env)
+  pub kept : HasMember (label_in nodes x.at) (members x.env)
 
-of_items_with : (nodes : List Node) (i : Inferred) (o : Option Fact) (x : Item) → some_fact i ≡ o → IsIn (items_with nodes i o) x → IsItemFrom nodes (i ∷ []) x
+of_items_with : (nodes : List Node) (i : Inferred) (o : Option Fact) (x : Pending) → some_fact i ≡ o → IsIn (items_with nodes i o) x → IsItemFrom nodes (i ∷ []) x
 of_items_with nodes i None x e h = absurd h
 of_items_with nodes i (Some f) x e h =
-    let env : (env : Env) × IsIn (label_of nodes f) env × (item_at f env i ≡ x) = of_map (λ d. item_at f d i) (label_of nodes f) x h in
-    let P : Item → Type 0 = λ y. IsItemFrom nodes (i ∷ []) y in
-    subst P env.2 (record { found = inl refl; at_fact = e; kept = in_map members (label_of nodes f) env.0 env.1 })
+    let env : (env : Env) × IsIn (label_in nodes f) env × (item_at f env i ≡ x) = IsIn-map (λ d. item_at f d i) (label_in nodes f) x h in
+    let P : Pending → Type 0 = λ y. IsItemFrom nodes (i ∷ []) y in
+    subst P env.2 (record { found = inl refl; at_fact = e; kept = map-IsIn members (label_in nodes f) env.0 env.1 })
 
-pub of_items : (nodes : List Node) (is : List Inferred) (x : Item) → IsIn (items_from nodes is) x → IsItemFrom nodes is x
+pub of_items : (nodes : List Node) (is : List Inferred) (x : Pending) → IsIn (items_from nodes is) x → IsItemFrom nodes is x
 of_items nodes [] x h = absurd h
 of_items nodes (i ∷ is) x h =
-    elim (in_either (items_with nodes i (some_fact i)) (items_from nodes is) x h) [
+    elim (IsIn-append (items_with nodes i (some_fact i)) (items_from nodes is) x h) [
       | inl a ↦
           let r : IsItemFrom nodes (i ∷ []) x = of_items_with nodes i (some_fact i) x refl a in
-          record { found = in_front (i ∷ []) is x.inferred r.found; at_fact = r.at_fact; kept = r.kept }
+          record { found = IsIn-left (i ∷ []) is x.inferred r.found; at_fact = r.at_fact; kept = r.kept }
       | inr b ↦
           let r : IsItemFrom nodes is x = of_items nodes is x b in
           record { found = inr r.found; at_fact = r.at_fact; kept = r.kept }
@@ -108,7 +109,7 @@ items_from-append nodes (i ∷ is) js = ap (λ l. items_with nodes i (some_fact 
 
 -- one inference more
 pub items_from-more :
-    (nodes : List Node) (found : List Inferred) (n : ℕ) (d : Inferred) (start old new : List Item) → n < length found → old ≡ start ++ items_from nodes (take n found)
+    (nodes : List Node) (found : List Inferred) (n : ℕ) (d : Inferred) (start old new : List Pending) → n < length found → old ≡ start ++ items_from nodes (take n found)
     → new ≡ old ++ items_with nodes (get_or found n d) (some_fact (get_or found n d)) → new ≡ start ++ items_from nodes (take (n + 1) found)
 items_from-more nodes found n d start old new low so_far then =
     let i : Inferred = get_or found n d in
@@ -140,14 +141,14 @@ module _ (slots : List (Option Assumption)) (slot : ℕ) (env : Env) (is : membe
   only_maker : HasMaker (Some slot) (members env)
   only_maker k e = let same : slot ≡ k = cc in let P : ℕ → Type 0 = λ x. IsTrue (members env x) in subst P same slot_inside
 
-module _ (slots : List (Option Assumption)) (w : Work) (exact : IsExactBefore slots w) (env : Env) (is : members env ≡ only w.slot) where
+module _ (slots : List (Option Assumption)) (w : Update) (rest : IsAtRest (before slots w.slot) w) (env : Env) (is : members env ≡ only w.slot) where
   abbrev S : Stock ℕ
   S = before slots w.slot
 
-  abbrev Alive : Fact → Type 0
-  Alive = IsIn (facts_of w.labels.nodes.items)
+  abbrev Met : Fact → Type 0
+  Met = IsIn (facts_of w.nodes.list.items)
 
-  abbrev Old : Inference → Type 0
+  abbrev Old : RecordedInference → Type 0
   Old = RecordedIn w.recorded.items
 
   more : HasOneMore ℕ S (stock slots) w.slot
@@ -155,7 +156,7 @@ module _ (slots : List (Option Assumption)) (w : Work) (exact : IsExactBefore sl
 
   -- a reading: its own environment is due
   module _ (f : Fact) (reads : stock slots w.slot ≡ Some (Reading f)) where
-    abbrev First : Due
+    abbrev First : Insertion
     First = record { target = Some f; env = env }
 
     first_environment : IsEnvironment (stock slots) (members env)
@@ -165,96 +166,99 @@ module _ (slots : List (Option Assumption)) (w : Work) (exact : IsExactBefore sl
     first_has = (zero, record { name = w.slot; chosen = slot_inside slots w.slot env is; named = reads })
 
     due_environment : (t : Target) (E : Set ℕ) → DueIn (First ∷ []) t E → IsEnvironment (stock slots) E
-    due_environment t E (k, inl e, a, b) = subst (IsEnvironment (stock slots)) (ap (λ (x : Due). members x.env) e ∙ b) first_environment
+    due_environment t E (k, inl e, a, b) = subst (IsEnvironment (stock slots)) (ap (λ (x : Insertion). members x.env) e ∙ b) first_environment
     due_environment t E (k, inr bad, a, b) = absurd bad
 
     due_has : (t : Target) (E : Set ℕ) → DueIn (First ∷ []) t E → HasAt (stock slots) t E
     due_has t E (k, inl e, a, b) =
-        let same : Some f ≡ t = ap (λ (x : Due). x.target) e ∙ a in
+        let same : Some f ≡ t = ap (λ (x : Insertion). x.target) e ∙ a in
         let P : Set ℕ → Type 0 = λ F. HasAt (stock slots) t F in
         let Q : Target → Type 0 = λ s. HasAt (stock slots) s (members env) in
-        subst P (ap (λ (x : Due). members x.env) e ∙ b) (subst Q same first_has)
+        subst P (ap (λ (x : Insertion). members x.env) e ∙ b) (subst Q same first_has)
     due_has t E (k, inr bad, a, b) = absurd bad
 
     alone : (E : Set ℕ) → IsTrue (E w.slot) → IsCovered (DueIn (First ∷ []) (Some f)) E
     alone E h = (members env, (First, inl refl, refl, refl), only_inside slots w.slot env is E h)
 
-    first_due : Holds slots w.slot w.labels w.recorded.items (First ∷ []) []
+    first_due : Holds slots w.slot w.nodes w.recorded.items (First ∷ []) []
     first_due =
-        let was : IsPropagating (stock slots) w.slot Alive (KeptIn w.labels) Old (DueIn (First ∷ [])) NoItem =
-        start_reading S (stock slots) w.slot more (decide w.slot) Alive (KeptIn w.labels) Old exact.settled exact.are exact.lives (DueIn (First ∷ []))
+        let was : IsPropagating (stock slots) w.slot Met (KeptIn w.nodes) Old (DueIn (First ∷ [])) NoItem =
+        start_reading S (stock slots) w.slot more (decide w.slot) Met (KeptIn w.nodes) Old rest.up_to_date.settled rest.up_to_date.are rest.up_to_date.were_met (DueIn (First ∷ []))
         (record { environments = due_environment; sound = due_has }) f reads alone in
-        whole.reordered (stock slots) w.slot Alive (KeptIn w.labels) Old (DueIn (First ∷ [])) NoItem was (DueIn (First ∷ [])) (WaitsIn [])
+        whole.reordered (stock slots) w.slot Met (KeptIn w.nodes) Old (DueIn (First ∷ [])) NoItem was (DueIn (First ∷ [])) (WaitsIn [])
         (λ t E. ((λ (k : DueIn (First ∷ []) t E). k), (λ (k : DueIn (First ∷ []) t E). k))) (λ j g m. ((λ (h : ⊥). absurd h), (λ (h : WaitsIn [] j g m). h.1)))
 
-    pub reading_begins : (dues : List Due) → dues ≡ w.due.items ++ First ∷ [] → Holds slots w.slot w.labels w.recorded.items dues w.agenda
-    reading_begins dues e = rw (e, exact.none_due, exact.nothing_waits) first_due
+    pub reading_begins : (dues : List Insertion) → dues ≡ w.due.items ++ First ∷ [] → Holds slots w.slot w.nodes w.recorded.items dues w.agenda
+    reading_begins dues e = rw (e, rest.none_due, rest.nothing_waits) first_due
 
   -- a component: its inferences are recorded, and what they lead to is due or waits
-  module _ (part : List Instance) (works : stock slots w.slot ≡ Some (Part part)) (found : List Inferred) (made : AreMadeBy slots (facts_of w.labels.nodes.items) w.slot found) where
+  module _ (part : List Instance) (works : stock slots w.slot ≡ Some (Part part)) (found : List Inferred) (made : AreMadeBy slots (facts_of w.nodes.list.items) w.slot found) where
     abbrev New : List Inferred
     New = w.recorded.items ++ found
 
-    abbrev Dues : List Due
+    abbrev Dues : List Insertion
     Dues = map (due_with env) (filter goes_from_none found)
 
-    abbrev Items : List Item
-    Items = items_from w.labels.nodes.items found
+    abbrev Items : List Pending
+    Items = items_from w.nodes.list.items found
 
-    front : (j : Inference) → Old j → RecordedIn New j
-    front j r = (r.0, in_front w.recorded.items found r.0 r.1, r.2)
+    front : (j : RecordedInference) → Old j → RecordedIn New j
+    front j r = (r.0, IsIn-left w.recorded.items found r.0 r.1, r.2)
 
-    back : (j : Inference) → RecordedIn found j → RecordedIn New j
-    back j r = (r.0, in_back w.recorded.items found r.0 r.1, r.2)
+    back : (j : RecordedInference) → RecordedIn found j → RecordedIn New j
+    back j r = (r.0, IsIn-right w.recorded.items found r.0 r.1, r.2)
 
-    split : (j : Inference) → RecordedIn New j → Old j ⊎ RecordedIn found j
-    split j r = elim (in_either w.recorded.items found r.0 r.1) [ inl o ↦ inl (r.0, o, r.2) | inr n ↦ inr (r.0, n, r.2) ]
+    still : (to : Target) (maker : Option ℕ) (known : Fact → Type 0) → HasInference Old to maker known → HasInference (RecordedIn New) to maker known
+    still to maker known j = (j.0, front j.0 j.1, j.2, j.3, j.4)
 
-    here : (k : ℕ) (p : List Instance) → k ≡ w.slot → stock slots k ≡ Some (Part p) → stock slots w.slot ≡ Some (Part p)
-    here k p e named = let P : ℕ → Type 0 = λ i. stock slots i ≡ Some (Part p) in subst P e named
+    now : (to : Target) (maker : Option ℕ) (known : Fact → Type 0) → HasInference (RecordedIn found) to maker known → HasInference (RecordedIn New) to maker known
+    now to maker known j = (j.0, back j.0 j.1, j.2, j.3, j.4)
 
-    now_recorded : AreRecorded (stock slots) Alive (RecordedIn New)
+    split : (j : RecordedInference) → RecordedIn New j → Old j ⊎ RecordedIn found j
+    split j r = elim (IsIn-append w.recorded.items found r.0 r.1) [ inl o ↦ inl (r.0, o, r.2) | inr n ↦ inr (r.0, n, r.2) ]
+
+    now_recorded : AreRecorded (stock slots) Met All (RecordedIn New)
     now_recorded = record {
       leads = λ j r. elim (split j r) [
-        | inl o ↦ leads_more S (stock slots) w.slot more j.from j.maker j.to (exact.are.leads j o)
-        | inr n ↦ let P : Inference → Type 0 = λ i. Leads (stock slots) i.from i.maker i.to in subst P n.2 (made.leads n.0 n.1)
+        | inl o ↦ leads_more S (stock slots) w.slot more j.from j.maker j.to (rest.up_to_date.are.leads j o)
+        | inr n ↦ made.are.leads j n
       ];
-      forced = λ k p instance known q v c named of_part held at forces. elim (decide w.slot k) [
-        | inl e ↦ let j = made.forced p instance known q v c (here k p e named) of_part held at forces in (j.0, back j.0 j.1, j.2, j.3 ∙ ap (λ (x : ℕ). Some x) (sym e), j.4)
-        | inr ne ↦ let j = exact.are.forced k p instance known q v c (more.1 k (Part p) ne named) of_part held at forces in (j.0, front j.0 j.1, j.2, j.3, j.4)
+      forced = λ k p instance known q v c named of_part _ held at forces. elim (decide w.slot k) [
+        | inl e ↦ now _ _ _ (made.are.forced k p instance known q v c named of_part (ap (λ (x : ℕ). Some x) e) held at forces)
+        | inr ne ↦ still _ _ _ (rest.up_to_date.are.forced k p instance known q v c (more.1 k (Part p) ne named) of_part tt held at forces)
       ];
-      refuted = λ k p instance known named of_part held refutes. elim (decide w.slot k) [
-        | inl e ↦ let j = made.refuted p instance known (here k p e named) of_part held refutes in (j.0, back j.0 j.1, j.2, j.3 ∙ ap (λ (x : ℕ). Some x) (sym e), j.4)
-        | inr ne ↦ let j = exact.are.refuted k p instance known (more.1 k (Part p) ne named) of_part held refutes in (j.0, front j.0 j.1, j.2, j.3, j.4)
+      refuted = λ k p instance known named of_part _ held refutes. elim (decide w.slot k) [
+        | inl e ↦ now _ _ _ (made.are.refuted k p instance known named of_part (ap (λ (x : ℕ). Some x) e) held refutes)
+        | inr ne ↦ still _ _ _ (rest.up_to_date.are.refuted k p instance known (more.1 k (Part p) ne named) of_part tt held refutes)
       ];
-      two_words = λ c v x differ low high. let j = exact.are.two_words c v x differ low high in (j.0, front j.0 j.1, j.2, j.3, j.4);
+      two_words = λ c v x differ _ low high. still _ _ _ (rest.up_to_date.are.two_words c v x differ tt low high);
     }
 
-    now_made : (j : Inference) → RecordedIn New j → Old j ⊎ (j.maker ≡ Some w.slot)
-    now_made j r = elim (split j r) [ inl o ↦ inl o | inr n ↦ inr (sym (ap (λ (i : Inference). i.maker) n.2) ∙ made.maker n.0 n.1) ]
+    now_made : (j : RecordedInference) → RecordedIn New j → Old j ⊎ (j.maker ≡ Some w.slot)
+    now_made j r = elim (split j r) [ inl o ↦ inl o | inr n ↦ inr (sym (ap (λ (i : RecordedInference). i.maker) n.2) ∙ made.maker n.0 n.1) ]
 
-    sound_now : IsSound (stock slots) (KeptIn w.labels)
-    sound_now = sound_more S (stock slots) w.slot more (KeptIn w.labels) (sound_of_settled S (KeptIn w.labels) exact.settled)
+    sound_now : IsSound (stock slots) (KeptIn w.nodes)
+    sound_now = sound_more S (stock slots) w.slot more (KeptIn w.nodes) (sound_of_settled S (KeptIn w.nodes) rest.up_to_date.settled)
 
     waiting : IsWaitingSound (stock slots) (RecordedIn New) (WaitsIn Items)
     waiting = record {
-      inference = λ j f E x. (x.0.inferred, in_back w.recorded.items found x.0.inferred (of_items w.labels.nodes.items found x.0 x.1).found, x.2);
+      inference = λ j f E x. (x.0.inferred, IsIn-right w.recorded.items found x.0.inferred (of_items w.nodes.list.items found x.0 x.1).found, x.2);
       antecedent = λ j f E x.
-          let it : IsItemFrom w.labels.nodes.items found x.0 = of_items w.labels.nodes.items found x.0 x.1 in
-          let P : Inference → Type 0 = λ i. IsIn i.from f in
+          let it : IsItemFrom w.nodes.list.items found x.0 = of_items w.nodes.list.items found x.0 x.1 in
+          let P : RecordedInference → Type 0 = λ i. IsIn i.from f in
           subst P x.2 (subst (IsIn (facts x.0.inferred.first x.0.inferred.second)) x.3 (some_is_of x.0.inferred.first x.0.inferred.second x.0.at it.at_fact));
-      environment = λ j f E x. subst (IsEnvironment (stock slots)) x.4 (sound_now.environments (Some x.0.at) (members x.0.env) (of_items w.labels.nodes.items found x.0 x.1).kept);
+      environment = λ j f E x. subst (IsEnvironment (stock slots)) x.4 (sound_now.environments (Some x.0.at) (members x.0.env) (of_items w.nodes.list.items found x.0 x.1).kept);
       sound = λ j f E x.
           let P : Set ℕ → Type 0 = λ F. Has (stock slots) f F in
           let Q : Fact → Type 0 = λ g. Has (stock slots) g (members x.0.env) in
-          subst P x.4 (subst Q x.3 (sound_now.sound (Some x.0.at) (members x.0.env) (of_items w.labels.nodes.items found x.0 x.1).kept));
+          subst P x.4 (subst Q x.3 (sound_now.sound (Some x.0.at) (members x.0.env) (of_items w.nodes.list.items found x.0 x.1).kept));
     }
 
     -- what is due at once: the target of an inference from no fact
-    due_of : (d : Due) → IsIn Dues d → (i : Inferred) × IsIn found i × IsTrue (goes_from_none i) × (due_with env i ≡ d)
+    due_of : (d : Insertion) → IsIn Dues d → (i : Inferred) × IsIn found i × IsTrue (goes_from_none i) × (due_with env i ≡ d)
     due_of d h =
-        let i : (i : Inferred) × IsIn (filter goes_from_none found) i × (due_with env i ≡ d) = of_map (due_with env) (filter goes_from_none found) d h in
-        let k : IsIn found i.0 × IsTrue (goes_from_none i.0) = of_filter goes_from_none found i.0 i.1 in
+        let i : (i : Inferred) × IsIn (filter goes_from_none found) i × (due_with env i ≡ d) = IsIn-map (due_with env) (filter goes_from_none found) d h in
+        let k : IsIn found i.0 × IsTrue (goes_from_none i.0) = IsIn-filter goes_from_none found i.0 i.1 in
         (i.0, k.0, k.1, i.2)
 
     from_none : (a b : Option Fact) → IsTrue (is_none (option_or a b)) → (f : Fact) → IsIn (facts a b) f → ⊥
@@ -265,7 +269,7 @@ module _ (slots : List (Option Assumption)) (w : Work) (exact : IsExactBefore sl
 
     due_leads : (i : Inferred) → IsIn found i → IsTrue (goes_from_none i) → HasAt (stock slots) i.to (members env)
     due_leads i h none =
-        leads_on (stock slots) (members env) (facts i.first i.second) i.maker i.to (made.leads i h)
+        leads_on (stock slots) (members env) (facts i.first i.second) i.maker i.to (made.are.leads (inference i) (i, h, refl))
         (let P : Option ℕ → Type 0 = λ m. HasMaker m (members env) in subst P (sym (made.maker i h)) (only_maker slots w.slot env is))
         (λ f at. absurd (from_none i.first i.second none f at))
 
@@ -273,31 +277,31 @@ module _ (slots : List (Option Assumption)) (w : Work) (exact : IsExactBefore sl
     due_now = record {
       environments = λ t E d.
           let i : (i : Inferred) × IsIn found i × IsTrue (goes_from_none i) × (due_with env i ≡ d.0) = due_of d.0 d.1 in
-          subst (IsEnvironment (stock slots)) (ap (λ (x : Due). members x.env) i.3 ∙ d.3) (only_environment slots w.slot env is (rw works refl));
+          subst (IsEnvironment (stock slots)) (ap (λ (x : Insertion). members x.env) i.3 ∙ d.3) (only_environment slots w.slot env is (rw works refl));
       sound = λ t E d.
           let i : (i : Inferred) × IsIn found i × IsTrue (goes_from_none i) × (due_with env i ≡ d.0) = due_of d.0 d.1 in
           let P : Set ℕ → Type 0 = λ F. HasAt (stock slots) t F in
           let Q : Target → Type 0 = λ s. HasAt (stock slots) s (members env) in
-          subst P (ap (λ (x : Due). members x.env) i.3 ∙ d.3) (subst Q (ap (λ (x : Due). x.target) i.3 ∙ d.2) (due_leads i.0 i.1 i.2));
+          subst P (ap (λ (x : Insertion). members x.env) i.3 ∙ d.3) (subst Q (ap (λ (x : Insertion). x.target) i.3 ∙ d.2) (due_leads i.0 i.1 i.2));
     }
 
     -- each choice for an inference of the component is due, or waits at one of its facts
     module _ (i : Inferred) (of_found : IsIn found i) (E : Set ℕ) (maker : HasMaker i.maker E) where
       abbrev IsSeenTo : List Fact → List (Set ℕ) → Type 0
-      IsSeenTo from ms = IsDue (KeptIn w.labels) (DueIn Dues) i.to E ⊎ SomeWaits (WaitsIn Items (inference i)) from ms
+      IsSeenTo from ms = IsDue (KeptIn w.nodes) (DueIn Dues) i.to E ⊎ SomeWaits (WaitsIn Items (inference i)) from ms
 
       slot_in : IsTrue (E w.slot)
       slot_in = maker w.slot (made.maker i of_found)
 
-      due_there : IsTrue (goes_from_none i) → IsDue (KeptIn w.labels) (DueIn Dues) i.to E
-      due_there none = inr (members env, (due_with env i, in_map (due_with env) (filter goes_from_none found) i (in_filter goes_from_none found i of_found none), refl, refl), only_inside slots w.slot env is E slot_in)
+      due_there : IsTrue (goes_from_none i) → IsDue (KeptIn w.nodes) (DueIn Dues) i.to E
+      due_there none = inr (members env, (due_with env i, map-IsIn (due_with env) (filter goes_from_none found) i (IsIn-kept goes_from_none found i of_found none), refl, refl), only_inside slots w.slot env is E slot_in)
 
-      waits_there : (f : Fact) (m : Set ℕ) → some_fact i ≡ Some f → KeptIn w.labels (Some f) m → WaitsIn Items (inference i) f m
+      waits_there : (f : Fact) (m : Set ℕ) → some_fact i ≡ Some f → KeptIn w.nodes (Some f) m → WaitsIn Items (inference i) f m
       waits_there f m at k =
-          let x : (x : Item) × IsIn Items x × (x.inferred ≡ i) × (x.at ≡ f) × (members x.env ≡ m) = in_items w.labels.nodes.items found i f m of_found at k in
+          let x : (x : Pending) × IsIn Items x × (x.inferred ≡ i) × (x.at ≡ f) × (members x.env ≡ m) = in_items w.nodes.list.items found i f m of_found at k in
           (x.0, x.1, ap inference x.2, x.3, x.4)
 
-      seen_to : (a b : Option Fact) → i.first ≡ a → i.second ≡ b → (ms : List (Set ℕ)) → AreChosen (KeptIn w.labels) E (facts a b) ms → IsSeenTo (facts a b) ms
+      seen_to : (a b : Option Fact) → i.first ≡ a → i.second ≡ b → (ms : List (Set ℕ)) → AreChosen (KeptIn w.nodes) E (facts a b) ms → IsSeenTo (facts a b) ms
       seen_to None None ea eb ms c = inl (due_there (rw (ea, eb) refl))
       seen_to (Some a) None ea eb [] c = absurd c
       seen_to (Some a) None ea eb (m ∷ ms) c = inr (inl (waits_there a m (rw ea refl) c.0))
@@ -307,19 +311,19 @@ module _ (slots : List (Option Assumption)) (w : Work) (exact : IsExactBefore sl
       seen_to (Some a) (Some b) ea eb (m ∷ ms) c = inr (inl (waits_there a m (rw ea refl) c.0))
 
     choices :
-        (j : Inference) (ms : List (Set ℕ)) (E : Set ℕ) → RecordedIn New j → j.maker ≡ Some w.slot → AreChosen (KeptIn w.labels) E j.from ms → HasMaker j.maker E
-        → IsDue (KeptIn w.labels) (DueIn Dues) j.to E ⊎ SomeWaits (WaitsIn Items j) j.from ms
+        (j : RecordedInference) (ms : List (Set ℕ)) (E : Set ℕ) → RecordedIn New j → j.maker ≡ Some w.slot → AreChosen (KeptIn w.nodes) E j.from ms → HasMaker j.maker E
+        → IsDue (KeptIn w.nodes) (DueIn Dues) j.to E ⊎ SomeWaits (WaitsIn Items j) j.from ms
     choices j ms E r by chosen maker =
         elim (split j r) [
-          | inl o ↦ inl (inl (choice_reached S (KeptIn w.labels) exact.settled j ms E (exact.are.leads j o) chosen maker))
+          | inl o ↦ inl (inl (choice_reached S (KeptIn w.nodes) rest.up_to_date.settled j ms E (rest.up_to_date.are.leads j o) chosen maker))
           | inr n ↦
-              let P : Inference → Type 0 = λ i. AreChosen (KeptIn w.labels) E i.from ms → HasMaker i.maker E → IsDue (KeptIn w.labels) (DueIn Dues) i.to E ⊎ SomeWaits (WaitsIn Items i) i.from ms in
-              subst P n.2 (λ (c : AreChosen (KeptIn w.labels) E (facts n.0.first n.0.second) ms) (m : HasMaker n.0.maker E). seen_to n.0 n.1 E m n.0.first n.0.second refl refl ms c) chosen maker
+              let P : RecordedInference → Type 0 = λ i. AreChosen (KeptIn w.nodes) E i.from ms → HasMaker i.maker E → IsDue (KeptIn w.nodes) (DueIn Dues) i.to E ⊎ SomeWaits (WaitsIn Items i) i.from ms in
+              subst P n.2 (λ (c : AreChosen (KeptIn w.nodes) E (facts n.0.first n.0.second) ms) (m : HasMaker n.0.maker E). seen_to n.0 n.1 E m n.0.first n.0.second refl refl ms c) chosen maker
         ]
 
-    all_begun : Holds slots w.slot w.labels New Dues Items
+    all_begun : Holds slots w.slot w.nodes New Dues Items
     all_begun =
-        start_part S (stock slots) w.slot more (decide w.slot) Alive (KeptIn w.labels) Old exact.settled exact.are exact.lives (DueIn Dues) due_now part works (RecordedIn New) (WaitsIn Items) now_recorded now_made waiting choices
+        start_part S (stock slots) w.slot more (decide w.slot) Met (KeptIn w.nodes) Old rest.up_to_date.settled rest.up_to_date.are rest.up_to_date.were_met (DueIn Dues) due_now part works (RecordedIn New) (WaitsIn Items) now_recorded now_made waiting choices
 
-    pub part_begins : (recorded : List Inferred) (dues : List Due) (items : List Item) → recorded ≡ New → dues ≡ w.due.items ++ Dues → items ≡ w.agenda ++ Items → Holds slots w.slot w.labels recorded dues items
-    part_begins recorded dues items r d i = rw (r, d, i, exact.none_due, exact.nothing_waits) all_begun
+    pub part_begins : (recorded : List Inferred) (dues : List Insertion) (items : List Pending) → recorded ≡ New → dues ≡ w.due.items ++ Dues → items ≡ w.agenda ++ Items → Holds slots w.slot w.nodes recorded dues items
+    part_begins recorded dues items r d i = rw (r, d, i, rest.none_due, rest.nothing_waits) all_begun

@@ -4,40 +4,39 @@ use Rattle.circuit_model.specs.declared.model.Fact.{Fact}
 use Rattle.environment_sets.specs.declared.environment.Env.{Env}
 use Rattle.environment_sets.specs.Sets.{Set, ◌⊆◌}
 use Rattle.environment_sets.specs.Members.{members, HasMember}
-use Rattle.antichains.specs.declared.antichain.OutOfMemory.{OutOfMemory}
 use Rattle.antichains.specs.declared.antichain.Inserted.{Inserted}
 use Rattle.antichains.specs.declared.antichain.Inserted.TheVariants.{Covered, Added}
-use Rattle.antichains.specs.Families.{Covers, Adds}
+use Rattle.environment_sets.specs.Families.{IsCovered, Adds}
 use Rattle.propagation.specs.Propagating.{IsPut}
-use Rattle.label_engine.specs.declared.labels.Node.{Node}
-use Rattle.label_engine.specs.declared.labels.Labels.{Labels}
-use Rattle.label_engine.specs.Labels.{label_of, KeptIn, EachDrops}
-use Rattle.label_engine.proofs.Nodes.{is_at, label_at, label_there, label_elsewhere, same_or_not, inside_or_not, dropped_label}
+use Rattle.label_engine.specs.declared.nodes.Node.{Node}
+use Rattle.label_engine.specs.declared.nodes.Nodes.{Nodes}
+use Rattle.label_engine.specs.Nodes.{label_in, KeptIn, EachDrops}
+use Rattle.label_engine.proofs.Labelled.{is_at, label_at, label_there, label_elsewhere, same_or_not, inside_or_not, dropped_label}
 use Rattle.label_engine.proofs.Puts.{put_fact, put_clash}
 
 -- what is not covered was added
-pub inserted : (r : Result Inserted OutOfMemory) (x : Inserted) (old new : List Env) (U : Set ℕ) → r ≡ Ok x → (r ≡ Ok Covered → Covers (HasMember old) U) → (r ≡ Ok Added → Adds (HasMember old) (HasMember new) U) → (Covers (HasMember old) U → ⊥) → Adds (HasMember old) (HasMember new) U
+pub inserted : {E : Type 0} (r : Result Inserted E) (x : Inserted) (old new : List Env) (U : Set ℕ) → r ≡ Ok x → (r ≡ Ok Covered → IsCovered (HasMember old) U) → (r ≡ Ok Added → Adds (HasMember old) (HasMember new) U) → (IsCovered (HasMember old) U → ⊥) → Adds (HasMember old) (HasMember new) U
 inserted r Covered old new U is covered added out = absurd (out (covered is))
 inserted r Added old new U is covered added out = added is
 
-module _ (old new : Labels) (e : Env) where
+module _ (old new : Nodes) (e : Env) where
   -- the label of one fact gains an environment
-  module _ (f : Fact) (i : ℕ) (d y : Node) (at : position (is_at f) old.nodes.items ≡ Some i) (same : y.fact ≡ (get_or old.nodes.items i d).fact) (nodes : new.nodes.items ≡ set old.nodes.items i y) (nogoods : new.nogoods ≡ old.nogoods) where
-    there : label_of new.nodes.items f ≡ y.label
-    there = ap (λ l. label_of l f) nodes ∙ label_there old.nodes.items f i d y at same
+  module _ (f : Fact) (i : ℕ) (d y : Node) (at : position (is_at f) old.list.items ≡ Some i) (same : y.fact ≡ (get_or old.list.items i d).fact) (nodes : new.list.items ≡ set old.list.items i y) (nogoods : new.nogoods ≡ old.nogoods) where
+    there : label_in new.list.items f ≡ y.label
+    there = ap (λ l. label_in l f) nodes ∙ label_there old.list.items f i d y at same
 
-    elsewhere : (g : Fact) → (f ≡ g → ⊥) → label_of new.nodes.items g ≡ label_of old.nodes.items g
-    elsewhere g differ = ap (λ l. label_of l g) nodes ∙ label_elsewhere old.nodes.items f i d y at same g differ
+    elsewhere : (g : Fact) → (f ≡ g → ⊥) → label_in new.list.items g ≡ label_in old.list.items g
+    elsewhere g differ = ap (λ l. label_in l g) nodes ∙ label_elsewhere old.list.items f i d y at same g differ
 
     alike : (xs ys : List Env) → xs ≡ ys → (F : Set ℕ) → HasMember ys F ↔ HasMember xs F
     alike xs ys same_list F = let P : List Env → Type 0 = λ l. HasMember l F ↔ HasMember xs F in subst P same_list ((λ (h : HasMember xs F). h), (λ (h : HasMember xs F). h))
 
-    pub put_in_place : Adds (HasMember (get_or old.nodes.items i d).label) (HasMember y.label) (members e) → IsPut (Some f) (members e) (KeptIn old) (KeptIn new)
+    pub put_in_place : Adds (HasMember (get_or old.list.items i d).label) (HasMember y.label) (members e) → IsPut (Some f) (members e) (KeptIn old) (KeptIn new)
     put_in_place adds =
         put_fact (members e) (KeptIn old) (KeptIn new) (inside_or_not e) f (same_or_not f)
-        (rw (there, label_at old.nodes.items f i d at) adds)
-        (λ g differ F. alike (label_of new.nodes.items g) (label_of old.nodes.items g) (elsewhere g differ) F)
+        (rw (there, label_at old.list.items f i d at) adds)
+        (λ g differ F. alike (label_in new.list.items g) (label_in old.list.items g) (elsewhere g differ) F)
         (λ F. alike new.nogoods old.nogoods nogoods F)
 
-  pub put_everywhere : Adds (HasMember old.nogoods) (HasMember new.nogoods) (members e) → EachDrops (λ F. members e ⊆ F) old.nodes.items new.nodes.items → IsPut None (members e) (KeptIn old) (KeptIn new)
-  put_everywhere adds drops = put_clash (members e) (KeptIn old) (KeptIn new) (inside_or_not e) adds (λ g. dropped_label (λ F. members e ⊆ F) old.nodes.items new.nodes.items g drops)
+  pub put_everywhere : Adds (HasMember old.nogoods) (HasMember new.nogoods) (members e) → EachDrops (λ F. members e ⊆ F) old.list.items new.list.items → IsPut None (members e) (KeptIn old) (KeptIn new)
+  put_everywhere adds drops = put_clash (members e) (KeptIn old) (KeptIn new) (inside_or_not e) adds (λ g. dropped_label (λ F. members e ⊆ F) old.list.items new.list.items g drops)

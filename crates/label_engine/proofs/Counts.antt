@@ -1,52 +1,18 @@
 -- How many sets and pairs are inside a mask.
-use Rattle.std.proofs.Common.{◌≡◌, ℕ, zero, suc, take, ◌+◌, ◌-◌, ◌^◌, min, inl, inr, Bool, true, false, ◌||◌, cond, IsTrue, IsFalse, true≢false, refl, sym, ap, subst, ◌∙◌, List, [], ◌∷◌, ◌++◌, map, length, Some, None, arith, length-append}
-use Rattle.std.specs.List.{count_by, filter, find, list_any}
+use Rattle.std.proofs.Common.{◌≡◌, ℕ, zero, suc, take, ◌+◌, ◌-◌, ◌^◌, min, inl, inr, Bool, true, false, ◌||◌, cond, IsTrue, IsFalse, true≢false, refl, sym, ap, subst, ◌∙◌, List, [], ◌∷◌, ◌++◌, map, Some, None, arith, length-append}
+use Rattle.std.specs.List.{find, list_any}
 use Rattle.std.proofs.lemmas.List.{length-map, take-map}
-use Rattle.std.proofs.lemmas.List.Sums.{length-filter}
-use Rattle.antichains.specs.Families.{IsAntichain, AreApart}
+use Rattle.environment_sets.specs.Families.{AreInside}
 use Rattle.circuit_model.specs.declared.model.Fact.{Fact}
 use Rattle.environment_sets.specs.declared.environment.Env.{Env}
-use Rattle.environment_sets.specs.declared.environment.TheConstants.{SLOTS}
-use Rattle.environment_sets.specs.Lists.{IsIn, IsRising, AreDistinct}
-use Rattle.environment_sets.specs.Members.{members, sets, HasMember}
-use Rattle.environment_sets.specs.Sets.{Set, ◌⊆◌, IsBelow, is_within}
-use Rattle.environment_sets.proofs.Listings.{IsIn-filter, IsIn-kept, IsRising-filter, map-filter}
-use Rattle.environment_sets.proofs.Slots.{slots_are_below}
-use Rattle.environment_sets.proofs.Within.{within_holds, holds_within}
-use Rattle.label_engine.specs.declared.labels.Node.{Node}
-use Rattle.label_engine.specs.Labels.{is_same, facts_of, label_of, envs_of}
-use Rattle.label_engine.specs.Questions.{AreInside, ArePairs, shown_as}
-use Rattle.label_engine.proofs.Families.{in_front, in_back, in_either, in_map, of_map, distinct_append}
-use Rattle.label_engine.proofs.Nodes.{is_at, same_fact, fact_same_of}
-
-module _ {X : Type 0} where
-  IsRising-along : (before after : X → X → Type 0) → ((x y : X) → before x y → after x y) → (xs : List X) → IsRising before xs → IsRising after xs
-  IsRising-along before after along [] r = tt
-  IsRising-along before after along (x ∷ xs) r = (λ y h. along x y (r.0 y h), IsRising-along before after along xs r.1)
-
-apart_differ : (E F : Set ℕ) → AreApart E F → E ≡ F → ⊥
-apart_differ E F apart same = apart.0 (λ k h. let P : Set ℕ → Type 0 = λ G. IsTrue (G k) in subst P same h)
-
-below : (es : List Env) (E : Set ℕ) → HasMember es E → IsBelow SLOTS E
-below es E h = let e : (e : Env) × IsIn es e × (members e ≡ E) = of_map members es E h in subst (IsBelow SLOTS) e.2 (slots_are_below e.0)
-
--- the members of an antichain inside the mask are as many as its list shows
-pub counted : (es : List Env) (mask : Set ℕ) (n : ℕ) → n ≡ count_by (λ e. is_within SLOTS (members e) mask) es → IsAntichain (sets es) → AreInside (HasMember es) mask n
-counted es mask n count antichain =
-    let test : Set ℕ → Bool = λ E. is_within SLOTS E mask in
-    record {
-      inside = filter test (sets es);
-      exact = record {
-        distinct = IsRising-filter test (λ x y. x ≡ y → ⊥) (sets es) (IsRising-along AreApart (λ x y. x ≡ y → ⊥) apart_differ (sets es) antichain);
-        exact = λ E. (
-          λ h. let r : IsIn (sets es) E × IsTrue (test E) = IsIn-filter test (sets es) E h in (r.0, within_holds SLOTS E mask (below es E r.0) r.1),
-          λ (member, inside). IsIn-kept test (sets es) E member (holds_within SLOTS E mask inside),
-        );
-      };
-      count =
-          count
-          ∙ (sym (length-filter (λ e. test (members e)) es) ∙ (sym (length-map (filter (λ e. test (members e)) es) members) ∙ ap (λ (l : List (Set ℕ)). length l) (map-filter members test es)));
-    }
+use Rattle.environment_sets.specs.Lists.{IsIn, AreDistinct}
+use Rattle.environment_sets.specs.Members.{HasMember}
+use Rattle.environment_sets.specs.Sets.{Set, ◌⊆◌}
+use Rattle.label_engine.specs.declared.nodes.Node.{Node}
+use Rattle.label_engine.specs.Nodes.{is_same, facts_of, label_in, envs_of}
+use Rattle.label_engine.specs.Questions.{ArePairs, shown_as}
+use Rattle.environment_sets.proofs.Membership.{IsIn-append, IsIn-left, IsIn-right, IsIn-map, map-IsIn, AreDistinct-append}
+use Rattle.label_engine.proofs.Labelled.{is_at, same_fact, fact_same_of}
 
 abbrev met : Fact → List Node → Bool
 met f ns = list_any (λ n. is_same n.fact f) ns
@@ -56,7 +22,7 @@ pub none_before : (ns : List Node) (n : Node) → AreDistinct (facts_of (ns ++ n
 none_before [] n d = refl
 none_before (m ∷ ns) n d =
     elim (is_same m.fact n.fact) as (λ b. is_same m.fact n.fact ≡ b → IsFalse (b || met n.fact ns)) [
-      | true ↦ λ is. absurd (d.0 n.fact (in_map (λ (k : Node). k.fact) (ns ++ n ∷ []) n (in_back ns (n ∷ []) n (inl refl))) (same_fact m.fact n.fact is))
+      | true ↦ λ is. absurd (d.0 n.fact (map-IsIn (λ (k : Node). k.fact) (ns ++ n ∷ []) n (IsIn-right ns (n ∷ []) n (inl refl))) (same_fact m.fact n.fact is))
       | false ↦ λ _. none_before ns n d.1
     ] refl
 
@@ -76,35 +42,35 @@ pub once_front : (k : ℕ) (ns : List Node) → AreDistinct (facts_of ns) → Ar
 once_front k ns d = subst AreDistinct (take-map (λ (n : Node). n.fact) k ns) (distinct_take k (facts_of ns) d)
 
 -- the labels of a list with one node more
-label_of-none : (ns : List Node) (f : Fact) → IsFalse (met f ns) → label_of ns f ≡ []
-label_of-none [] f out = refl
-label_of-none (n ∷ ns) f out =
+label_in-none : (ns : List Node) (f : Fact) → IsFalse (met f ns) → label_in ns f ≡ []
+label_in-none [] f out = refl
+label_in-none (n ∷ ns) f out =
     elim (is_same n.fact f) as (λ b. IsFalse (b || met f ns) → envs_of (cond b (Some n) (find (is_at f) ns)) ≡ []) [
       | true ↦ λ bad. absurd (true≢false bad)
-      | false ↦ λ rest. label_of-none ns f rest
+      | false ↦ λ rest. label_in-none ns f rest
     ] out
 
-label_of-other : (ns : List Node) (n : Node) (f : Fact) → IsFalse (is_same n.fact f) → label_of (ns ++ n ∷ []) f ≡ label_of ns f
-label_of-other [] n f out = ap (λ b. envs_of (cond b (Some n) None)) out
-label_of-other (m ∷ ns) n f out =
+label_in-other : (ns : List Node) (n : Node) (f : Fact) → IsFalse (is_same n.fact f) → label_in (ns ++ n ∷ []) f ≡ label_in ns f
+label_in-other [] n f out = ap (λ b. envs_of (cond b (Some n) None)) out
+label_in-other (m ∷ ns) n f out =
     elim (is_same m.fact f) as (λ b. envs_of (cond b (Some m) (find (is_at f) (ns ++ n ∷ []))) ≡ envs_of (cond b (Some m) (find (is_at f) ns))) [
       | true ↦ refl
-      | false ↦ label_of-other ns n f out
+      | false ↦ label_in-other ns n f out
     ]
 
-label_of-new : (ns : List Node) (n : Node) (f : Fact) → IsFalse (met f ns) → IsTrue (is_same n.fact f) → label_of (ns ++ n ∷ []) f ≡ n.label
-label_of-new [] n f out is = ap (λ b. envs_of (cond b (Some n) None)) is
-label_of-new (m ∷ ns) n f out is =
+label_in-new : (ns : List Node) (n : Node) (f : Fact) → IsFalse (met f ns) → IsTrue (is_same n.fact f) → label_in (ns ++ n ∷ []) f ≡ n.label
+label_in-new [] n f out is = ap (λ b. envs_of (cond b (Some n) None)) is
+label_in-new (m ∷ ns) n f out is =
     elim (is_same m.fact f) as (λ b. IsFalse (b || met f ns) → envs_of (cond b (Some m) (find (is_at f) (ns ++ n ∷ []))) ≡ n.label) [
       | true ↦ λ bad. absurd (true≢false bad)
-      | false ↦ λ rest. label_of-new ns n f rest is
+      | false ↦ λ rest. label_in-new ns n f rest is
     ] out
 
 module _ (ns : List Node) (n : Node) (mask : Set ℕ) (m : ℕ) (pairs : ArePairs ns mask m) where
   abbrev IsKeptIn : List Node → Fact × Set ℕ → Type 0
-  IsKeptIn nodes p = HasMember (label_of nodes p.0) p.1 × (p.1 ⊆ mask)
+  IsKeptIn nodes p = HasMember (label_in nodes p.0) p.1 × (p.1 ⊆ mask)
 
-  kept_along : (old new : List Node) (p : Fact × Set ℕ) → label_of old p.0 ≡ label_of new p.0 → IsKeptIn old p → IsKeptIn new p
+  kept_along : (old new : List Node) (p : Fact × Set ℕ) → label_in old p.0 ≡ label_in new p.0 → IsKeptIn old p → IsKeptIn new p
   kept_along old new p same h = (let P : List Env → Type 0 = λ es. HasMember es p.1 in subst P same h.0, h.1)
 
   module _ (out : IsFalse (met n.fact ns)) (k : ℕ) (label : AreInside (HasMember n.label) mask k) where
@@ -114,7 +80,7 @@ module _ (ns : List Node) (n : Node) (mask : Set ℕ) (m : ℕ) (pairs : ArePair
     added_distinct : (Es : List (Set ℕ)) → AreDistinct Es → AreDistinct {X = Fact × Set ℕ} (map (λ (E : Set ℕ). (n.fact, E)) Es)
     added_distinct [] d = tt
     added_distinct (E ∷ Es) d = (
-      λ p h same. let r : (F : Set ℕ) × IsIn Es F × ((n.fact, F) ≡ p) = of_map (λ (F : Set ℕ). (n.fact, F)) Es p h in d.0 r.0 r.1 (ap (λ (q : Fact × Set ℕ). q.1) (same ∙ sym r.2)),
+      λ p h same. let r : (F : Set ℕ) × IsIn Es F × ((n.fact, F) ≡ p) = IsIn-map (λ (F : Set ℕ). (n.fact, F)) Es p h in d.0 r.0 r.1 (ap (λ (q : Fact × Set ℕ). q.1) (same ∙ sym r.2)),
       added_distinct Es d.1,
     )
 
@@ -122,13 +88,13 @@ module _ (ns : List Node) (n : Node) (mask : Set ℕ) (m : ℕ) (pairs : ArePair
     old_other : (p : Fact × Set ℕ) → IsKeptIn ns p → IsFalse (is_same n.fact p.0)
     old_other p kept =
         elim (is_same n.fact p.0) as (λ b. is_same n.fact p.0 ≡ b → IsFalse b) [
-          | true ↦ λ at. absurd (let P : Fact → Type 0 = λ f. HasMember (label_of ns f) p.1 in let Q : List Env → Type 0 = λ es. HasMember es p.1 in subst Q (label_of-none ns n.fact out) (subst P (sym (same_fact n.fact p.0 at)) kept.0))
+          | true ↦ λ at. absurd (let P : Fact → Type 0 = λ f. HasMember (label_in ns f) p.1 in let Q : List Env → Type 0 = λ es. HasMember es p.1 in subst Q (label_in-none ns n.fact out) (subst P (sym (same_fact n.fact p.0 at)) kept.0))
           | false ↦ λ _. refl
         ] refl
 
     added_fact : (p : Fact × Set ℕ) → IsIn added p → (n.fact ≡ p.0) × IsIn label.inside p.1
     added_fact p h =
-        let r : (F : Set ℕ) × IsIn label.inside F × ((n.fact, F) ≡ p) = of_map (λ (F : Set ℕ). (n.fact, F)) label.inside p h in
+        let r : (F : Set ℕ) × IsIn label.inside F × ((n.fact, F) ≡ p) = IsIn-map (λ (F : Set ℕ). (n.fact, F)) label.inside p h in
         (ap (λ (q : Fact × Set ℕ). q.0) r.2, subst (IsIn label.inside) (ap (λ (q : Fact × Set ℕ). q.1) r.2) r.1)
 
     apart : (p : Fact × Set ℕ) → IsIn pairs.pairs p → IsIn added p → ⊥
@@ -136,16 +102,16 @@ module _ (ns : List Node) (n : Node) (mask : Set ℕ) (m : ℕ) (pairs : ArePair
 
     kept_of : (p : Fact × Set ℕ) → IsIn (pairs.pairs ++ added) p → IsKeptIn (ns ++ n ∷ []) p
     kept_of p h =
-        elim (in_either pairs.pairs added p h) [
+        elim (IsIn-append pairs.pairs added p h) [
           | inl old ↦
               let kept : IsKeptIn ns p = (pairs.exact.exact p).0 old in
-              kept_along ns (ns ++ n ∷ []) p (sym (label_of-other ns n p.0 (old_other p kept))) kept
+              kept_along ns (ns ++ n ∷ []) p (sym (label_in-other ns n p.0 (old_other p kept))) kept
           | inr here ↦
               let at : (n.fact ≡ p.0) × IsIn label.inside p.1 = added_fact p here in
               let inside : HasMember n.label p.1 × (p.1 ⊆ mask) = (label.exact.exact p.1).0 at.1 in
               let out_there : IsFalse (met p.0 ns) = (let P : Fact → Type 0 = λ f. IsFalse (met f ns) in subst P at.0 out) in
               let Q : List Env → Type 0 = λ es. HasMember es p.1 in
-              (subst Q (sym (label_of-new ns n p.0 out_there (fact_same_of n.fact p.0 at.0))) inside.0, inside.1)
+              (subst Q (sym (label_in-new ns n p.0 out_there (fact_same_of n.fact p.0 at.0))) inside.0, inside.1)
         ]
 
     of_kept : (p : Fact × Set ℕ) → IsKeptIn (ns ++ n ∷ []) p → IsIn (pairs.pairs ++ added) p
@@ -155,10 +121,10 @@ module _ (ns : List Node) (n : Node) (mask : Set ℕ) (m : ℕ) (pairs : ArePair
               let same : n.fact ≡ p.0 = same_fact n.fact p.0 at in
               let out_there : IsFalse (met p.0 ns) = (let P : Fact → Type 0 = λ f. IsFalse (met f ns) in subst P same out) in
               let Q : List Env → Type 0 = λ es. HasMember es p.1 in
-              let there : IsIn label.inside p.1 = (label.exact.exact p.1).1 (subst Q (label_of-new ns n p.0 out_there at) kept.0, kept.1) in
-              let whole : IsIn added (n.fact, p.1) = in_map (λ (E : Set ℕ). (n.fact, E)) label.inside p.1 there in
-              in_back pairs.pairs added p (let P : Fact → Type 0 = λ f. IsIn added (f, p.1) in subst P same whole)
-          | false ↦ λ other. in_front pairs.pairs added p ((pairs.exact.exact p).1 (kept_along (ns ++ n ∷ []) ns p (label_of-other ns n p.0 other) kept))
+              let there : IsIn label.inside p.1 = (label.exact.exact p.1).1 (subst Q (label_in-new ns n p.0 out_there at) kept.0, kept.1) in
+              let whole : IsIn added (n.fact, p.1) = map-IsIn (λ (E : Set ℕ). (n.fact, E)) label.inside p.1 there in
+              IsIn-right pairs.pairs added p (let P : Fact → Type 0 = λ f. IsIn added (f, p.1) in subst P same whole)
+          | false ↦ λ other. IsIn-left pairs.pairs added p ((pairs.exact.exact p).1 (kept_along (ns ++ n ∷ []) ns p (label_in-other ns n p.0 other) kept))
         ] refl
 
     -- another node adds those of its label
@@ -166,7 +132,7 @@ module _ (ns : List Node) (n : Node) (mask : Set ℕ) (m : ℕ) (pairs : ArePair
     pairs_more = record {
       pairs = pairs.pairs ++ added;
       exact = record {
-        distinct = distinct_append pairs.pairs added pairs.exact.distinct (added_distinct label.inside label.exact.distinct) apart;
+        distinct = AreDistinct-append pairs.pairs added pairs.exact.distinct (added_distinct label.inside label.exact.distinct) apart;
         exact = λ p. (kept_of p, of_kept p);
       };
       count = omega (arith, pairs.count, label.count, length-append pairs.pairs added, length-map {B = Fact × Set ℕ} label.inside (λ (E : Set ℕ). (n.fact, E)));

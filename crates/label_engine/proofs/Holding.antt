@@ -1,5 +1,8 @@
 -- What holds of the lists, kept by each step.
 use Rattle.std.proofs.Common.{◌≡◌, ℕ, ◌+◌, ◌*◌, ◌^◌, ◌<◌, ◌⊎◌, inl, inr, ◌||◌, IsTrue, refl, sym, ap, subst, ◌∙◌, List, [], ◌∷◌, ◌++◌, map, filter, Option, Some, None, arith}
+use Rattle.std.proofs.lemmas.Bool.{or_cases, or_left, or_right}
+use Rattle.environment_sets.proofs.Listings.{IsIn-filter, IsIn-kept}
+use Rattle.environment_sets.proofs.Membership.{IsIn-append, IsIn-left, IsIn-map, IsIn-right, map-IsIn}
 use Rattle.circuit_model.specs.declared.model.Fact.{Fact}
 use Rattle.circuit_model.specs.declared.model.Assumption.{Assumption}
 use Rattle.environment_sets.specs.declared.environment.Env.{Env}
@@ -7,32 +10,32 @@ use Rattle.environment_sets.specs.Sets.{Set}
 use Rattle.environment_sets.specs.Members.{members}
 use Rattle.environment_sets.specs.Lists.{IsIn}
 use Rattle.environment_sets.proofs.Slots.{slots_are_below}
-use Rattle.propagation.specs.Propagating.{Target, Inference, Leads, IsReached, AgreeWithout, IsPut, IsPropagating}
+use Rattle.propagation.specs.Propagating.{Target, RecordedInference, IsReached, AgreeWithout, IsPut, IsPropagating}
 use Rattle.propagation.specs.Uncovered.{uncovered, TargetFits}
 use Rattle.propagation.proofs.Uncovered.{uncovered_less}
-use Rattle.propagation.proofs.Alive.{recorded_alive}
+use Rattle.propagation.proofs.Meeting.{recorded_met}
 use Rattle.propagation.proofs.Steps.{reached_stays, reached_there}
 use Rattle.propagation.proofs.Whole as whole
-use Rattle.label_engine.specs.declared.labels.Labels.{Labels}
-use Rattle.label_engine.specs.declared.labels.Due.{Due}
+use Rattle.label_engine.specs.declared.nodes.Nodes.{Nodes}
+use Rattle.label_engine.specs.declared.nodes.Insertion.{Insertion}
 use Rattle.inference_search.specs.declared.inferred.Inferred.{Inferred}
-use Rattle.label_engine.specs.declared.work.Item.{Item}
-use Rattle.label_engine.specs.Labels.{facts_of, KeptIn, reaches}
-use Rattle.label_engine.specs.Work.{is_same_target, UsesIt, DueIn, WaitsIn, Holds, item_at, items_at, items_for}
-use Rattle.inference_search.specs.Slots.{stock}
+use Rattle.label_engine.specs.declared.update.Pending.{Pending}
+use Rattle.label_engine.specs.Nodes.{facts_of, KeptIn, reaches}
+use Rattle.label_engine.specs.Update.{is_same_target, goes_from, DueIn, WaitsIn, Holds, item_at, items_at, items_for}
+use Rattle.assumption_slots.specs.Slots.{stock}
 use Rattle.inference_search.specs.Inferences.{facts, inference, RecordedIn}
 use Rattle.inference_search.specs.Found.{AreFound}
-use Rattle.label_engine.proofs.Families.{in_front, in_back, in_either, in_filter, of_filter, in_map, of_map, either, either_left, either_right, same_target, target_same, reached_is, is_reached_of, not_reached_is}
+use Rattle.label_engine.proofs.Families.{same_target, target_same, reached_is, is_reached_of, not_reached_is}
 
-module _ (slots : List (Option Assumption)) (slot : ℕ) (labels : Labels) (recorded : List Inferred) (due : Due) (dues : List Due) (agenda : List Item) where
+module _ (slots : List (Option Assumption)) (slot : ℕ) (labels : Nodes) (recorded : List Inferred) (due : Insertion) (dues : List Insertion) (agenda : List Pending) where
   abbrev Before : Type 0
   Before = Holds slots slot labels recorded (due ∷ dues) agenda
 
-  abbrev Alive : List Fact
-  Alive = facts_of labels.nodes.items
+  abbrev Met : List Fact
+  Met = facts_of labels.list.items
 
   rest : (s : Target) (E : Set ℕ) → DueIn (due ∷ dues) s E → DueIn dues s E ⊎ ((s ≡ due.target) × (E ≡ members due.env))
-  rest s E (k, inl e, t, m) = inr (sym t ∙ sym (ap (λ (x : Due). x.target) e), sym m ∙ sym (ap (λ (x : Due). members x.env) e))
+  rest s E (k, inl e, t, m) = inr (sym t ∙ sym (ap (λ (x : Insertion). x.target) e), sym m ∙ sym (ap (λ (x : Insertion). members x.env) e))
   rest s E (k, inr i, t, m) = inl (k, i, t, m)
 
   fewer : (s : Target) (E : Set ℕ) → DueIn dues s E → DueIn (due ∷ dues) s E
@@ -43,45 +46,41 @@ module _ (slots : List (Option Assumption)) (slot : ℕ) (labels : Labels) (reco
 
   -- what is reached already goes
   pub holds_reached : Before → IsReached (KeptIn labels) due.target (members due.env) → Holds slots slot labels recorded dues agenda
-  holds_reached was r = whole.reached_goes (stock slots) slot (IsIn Alive) (KeptIn labels) (RecordedIn recorded) (DueIn (due ∷ dues)) (WaitsIn agenda) was (DueIn dues) due.target (members due.env) rest fewer r
+  holds_reached was r = whole.reached_goes (stock slots) slot (IsIn Met) (KeptIn labels) (RecordedIn recorded) (DueIn (due ∷ dues)) (WaitsIn agenda) was (DueIn dues) due.target (members due.env) rest fewer r
 
-  -- a fact comes alive
-  pub holds_alive :
-      Before → (f : Fact) → (IsIn Alive f → ⊥) → (found : List Inferred) → AreFound slots Alive f found
-      → IsPropagating (stock slots) slot (IsIn (Alive ++ f ∷ [])) (KeptIn labels) (RecordedIn (recorded ++ found)) (DueIn (due ∷ dues)) (WaitsIn agenda)
-  holds_alive was f dead found are =
-      whole.enlivened (stock slots) slot (IsIn Alive) (KeptIn labels) (RecordedIn recorded) (DueIn (due ∷ dues)) (WaitsIn agenda) was f
-      dead
-      (IsIn (Alive ++ f ∷ [])) (λ g a. in_front Alive (f ∷ []) g a)
+  -- a fact comes met
+  pub holds_met :
+      Before → (f : Fact) → (IsIn Met f → ⊥) → (found : List Inferred) → AreFound slots Met f found
+      → IsPropagating (stock slots) slot (IsIn (Met ++ f ∷ [])) (KeptIn labels) (RecordedIn (recorded ++ found)) (DueIn (due ∷ dues)) (WaitsIn agenda)
+  holds_met was f unmet found are =
+      whole.fact_met (stock slots) slot (IsIn Met) (KeptIn labels) (RecordedIn recorded) (DueIn (due ∷ dues)) (WaitsIn agenda) was f
+      unmet
+      (IsIn (Met ++ f ∷ [])) (λ g a. IsIn-left Met (f ∷ []) g a)
       (RecordedIn (recorded ++ found)) more new
-      (recorded_alive (stock slots) (IsIn Alive) (IsIn (Alive ++ f ∷ [])) f split (RecordedIn recorded) (RecordedIn found) (RecordedIn (recorded ++ found)) was.are more (λ j r. (r.0, in_back recorded found r.0 r.1, r.2)) leads are.all)
+      (recorded_met (stock slots) (IsIn Met) (IsIn (Met ++ f ∷ [])) f split (RecordedIn recorded) (RecordedIn found) (RecordedIn (recorded ++ found)) was.are more (λ j r. (r.0, IsIn-right recorded found r.0 r.1, r.2)) only are.are)
     where
-      more : (j : Inference) → RecordedIn recorded j → RecordedIn (recorded ++ found) j
-      more j r = (r.0, in_front recorded found r.0 r.1, r.2)
+      more : (j : RecordedInference) → RecordedIn recorded j → RecordedIn (recorded ++ found) j
+      more j r = (r.0, IsIn-left recorded found r.0 r.1, r.2)
 
-      new : (j : Inference) → RecordedIn (recorded ++ found) j → RecordedIn recorded j ⊎ IsIn j.from f
+      new : (j : RecordedInference) → RecordedIn (recorded ++ found) j → RecordedIn recorded j ⊎ IsIn j.from f
       new j r =
-          elim (in_either recorded found r.0 r.1) [
+          elim (IsIn-append recorded found r.0 r.1) [
             | inl o ↦ inl (r.0, o, r.2)
-            | inr n ↦ inr (let P : Inference → Type 0 = λ i. IsIn i.from f in subst P r.2 (are.uses r.0 n))
+            | inr n ↦ inr (let P : RecordedInference → Type 0 = λ i. IsIn i.from f in subst P r.2 (are.uses r.0 n))
           ]
 
-      split : (g : Fact) → IsIn (Alive ++ f ∷ []) g → IsIn Alive g ⊎ (g ≡ f)
-      split g i = elim (in_either Alive (f ∷ []) g i) [ inl a ↦ inl a | inr l ↦ elim l [ inl e ↦ inr (sym e) | inr bad ↦ absurd bad ] ]
+      split : (g : Fact) → IsIn (Met ++ f ∷ []) g → IsIn Met g ⊎ (g ≡ f)
+      split g i = elim (IsIn-append Met (f ∷ []) g i) [ inl a ↦ inl a | inr l ↦ elim l [ inl e ↦ inr (sym e) | inr bad ↦ absurd bad ] ]
 
-      leads : (j : Inference) → RecordedIn (recorded ++ found) j → Leads (stock slots) j.from j.maker j.to
-      leads j r =
-          elim (in_either recorded found r.0 r.1) [
-            | inl o ↦ was.are.leads j (r.0, o, r.2)
-            | inr n ↦ let P : Inference → Type 0 = λ i. Leads (stock slots) i.from i.maker i.to in subst P r.2 (are.leads r.0 n)
-          ]
+      only : (j : RecordedInference) → RecordedIn (recorded ++ found) j → RecordedIn recorded j ⊎ RecordedIn found j
+      only j r = elim (IsIn-append recorded found r.0 r.1) [ inl o ↦ inl (r.0, o, r.2) | inr n ↦ inr (r.0, n, r.2) ]
 
   module _
-      (was : Before) (not_reached : IsReached (KeptIn labels) due.target (members due.env) → ⊥) (lives : (f : Fact) → due.target ≡ Some f → IsIn Alive f) (after : Labels)
+      (was : Before) (not_reached : IsReached (KeptIn labels) due.target (members due.env) → ⊥) (were_met : (f : Fact) → due.target ≡ Some f → IsIn Met f) (after : Nodes)
       (put : IsPut due.target (members due.env) (KeptIn labels) (KeptIn after))
     where
-      uses_it : (i : Inferred) (f : Fact) → IsTrue (UsesIt f i) → IsIn (facts i.first i.second) f
-      uses_it i f h = uses_facts i.first i.second f (elim (either _ _ h) [ inl a ↦ inl (same_target _ _ a) | inr b ↦ inr (same_target _ _ b) ])
+      uses_it : (i : Inferred) (f : Fact) → IsTrue (goes_from f i) → IsIn (facts i.first i.second) f
+      uses_it i f h = uses_facts i.first i.second f (elim (or_cases _ _ h) [ inl a ↦ inl (same_target _ _ a) | inr b ↦ inr (same_target _ _ b) ])
         where
           uses_facts : (a b : Option Fact) (f : Fact) → (a ≡ Some f) ⊎ (b ≡ Some f) → IsIn (facts a b) f
           uses_facts None None f (inl e) = absurd (cc)
@@ -97,58 +96,58 @@ module _ (slots : List (Option Assumption)) (slot : ℕ) (labels : Labels) (reco
       used None None f h = absurd h
       used None (Some b) f (inl e) = target_same (Some b) (Some f) (ap (λ x. Some x) e)
       used None (Some b) f (inr h) = absurd h
-      used (Some a) None f (inl e) = either_left _ _ (target_same (Some a) (Some f) (ap (λ x. Some x) e))
+      used (Some a) None f (inl e) = or_left _ _ (target_same (Some a) (Some f) (ap (λ x. Some x) e))
       used (Some a) None f (inr h) = absurd h
-      used (Some a) (Some b) f (inl e) = either_left _ _ (target_same (Some a) (Some f) (ap (λ x. Some x) e))
-      used (Some a) (Some b) f (inr (inl e)) = either_right _ _ (target_same (Some b) (Some f) (ap (λ x. Some x) e))
+      used (Some a) (Some b) f (inl e) = or_left _ _ (target_same (Some a) (Some f) (ap (λ x. Some x) e))
+      used (Some a) (Some b) f (inr (inl e)) = or_right _ _ (target_same (Some b) (Some f) (ap (λ x. Some x) e))
       used (Some a) (Some b) f (inr (inr h)) = absurd h
 
-      item : (t : Target) (e : Env) (j : Inference) (f : Fact) → RecordedIn recorded j → t ≡ Some f → IsIn j.from f → WaitsIn (items_at t e recorded) j f (members e)
+      item : (t : Target) (e : Env) (j : RecordedInference) (f : Fact) → RecordedIn recorded j → t ≡ Some f → IsIn j.from f → WaitsIn (items_at t e recorded) j f (members e)
       item None e j f r same i = absurd (cc)
       item (Some g) e j f r same i =
           let gf : g ≡ f = cc in
-          let u : IsTrue (UsesIt f r.0) = used r.0.first r.0.second f (let P : Inference → Type 0 = λ x. IsIn x.from f in subst P (sym r.2) i) in
-          let P : Fact → Type 0 = λ x. IsIn (map (item_at x e) (filter (UsesIt x) recorded)) (item_at f e r.0) in
-          (item_at f e r.0, subst P (sym gf) (in_map (item_at f e) (filter (UsesIt f) recorded) r.0 (in_filter (UsesIt f) recorded r.0 r.1 u)), r.2, refl, refl)
+          let u : IsTrue (goes_from f r.0) = used r.0.first r.0.second f (let P : RecordedInference → Type 0 = λ x. IsIn x.from f in subst P (sym r.2) i) in
+          let P : Fact → Type 0 = λ x. IsIn (map (item_at x e) (filter (goes_from x) recorded)) (item_at f e r.0) in
+          (item_at f e r.0, subst P (sym gf) (map-IsIn (item_at f e) (filter (goes_from f) recorded) r.0 (IsIn-kept (goes_from f) recorded r.0 r.1 u)), r.2, refl, refl)
 
-      item_of : (t : Target) (e : Env) (j : Inference) (f : Fact) (m : Set ℕ) → WaitsIn (items_at t e recorded) j f m → RecordedIn recorded j × IsIn j.from f × (t ≡ Some f) × (m ≡ members e)
+      item_of : (t : Target) (e : Env) (j : RecordedInference) (f : Fact) (m : Set ℕ) → WaitsIn (items_at t e recorded) j f m → RecordedIn recorded j × IsIn j.from f × (t ≡ Some f) × (m ≡ members e)
       item_of None e j f m w = absurd w.1
       item_of (Some g) e j f m w =
-          let i : (i : Inferred) × IsIn (filter (UsesIt g) recorded) i × (item_at g e i ≡ w.0) = of_map (item_at g e) (filter (UsesIt g) recorded) w.0 w.1 in
-          let r : IsIn recorded i.0 × IsTrue (UsesIt g i.0) = of_filter (UsesIt g) recorded i.0 i.1 in
-          let at : g ≡ f = ap (λ (x : Item). x.at) i.2 ∙ w.3 in
-          let same : inference i.0 ≡ j = ap (λ (x : Item). inference x.inferred) i.2 ∙ w.2 in
+          let i : (i : Inferred) × IsIn (filter (goes_from g) recorded) i × (item_at g e i ≡ w.0) = IsIn-map (item_at g e) (filter (goes_from g) recorded) w.0 w.1 in
+          let r : IsIn recorded i.0 × IsTrue (goes_from g i.0) = IsIn-filter (goes_from g) recorded i.0 i.1 in
+          let at : g ≡ f = ap (λ (x : Pending). x.at) i.2 ∙ w.3 in
+          let same : inference i.0 ≡ j = ap (λ (x : Pending). inference x.inferred) i.2 ∙ w.2 in
           let P : Fact → Type 0 = λ x. IsIn (facts i.0.first i.0.second) x in
-          let Q : Inference → Type 0 = λ x. IsIn x.from f in
-          ((i.0, r.0, same), subst Q same (subst P at (uses_it i.0 g r.1)), ap (λ x. Some x) at, sym w.4 ∙ sym (ap (λ (x : Item). members x.env) i.2))
+          let Q : RecordedInference → Type 0 = λ x. IsIn x.from f in
+          ((i.0, r.0, same), subst Q same (subst P at (uses_it i.0 g r.1)), ap (λ x. Some x) at, sym w.4 ∙ sym (ap (λ (x : Pending). members x.env) i.2))
 
-      items : (j : Inference) (f : Fact) (m : Set ℕ) → WaitsIn (agenda ++ items_for due recorded) j f m → WaitsIn agenda j f m ⊎ (RecordedIn recorded j × IsIn j.from f × (due.target ≡ Some f) × (m ≡ members due.env))
+      items : (j : RecordedInference) (f : Fact) (m : Set ℕ) → WaitsIn (agenda ++ items_for due recorded) j f m → WaitsIn agenda j f m ⊎ (RecordedIn recorded j × IsIn j.from f × (due.target ≡ Some f) × (m ≡ members due.env))
       items j f m w =
-          elim (in_either agenda (items_for due recorded) w.0 w.1) [
+          elim (IsIn-append agenda (items_for due recorded) w.0 w.1) [
             | inl o ↦ inl (w.0, o, w.2, w.3, w.4)
             | inr n ↦ inr (item_of due.target due.env j f m (w.0, n, w.2, w.3, w.4))
           ]
 
-      item_there : (j : Inference) (f : Fact) → RecordedIn recorded j → due.target ≡ Some f → IsIn j.from f → WaitsIn (agenda ++ items_for due recorded) j f (members due.env)
-      item_there j f r e i = let w : WaitsIn (items_for due recorded) j f (members due.env) = item due.target due.env j f r e i in (w.0, in_back agenda (items_for due recorded) w.0 w.1, w.2, w.3, w.4)
+      item_there : (j : RecordedInference) (f : Fact) → RecordedIn recorded j → due.target ≡ Some f → IsIn j.from f → WaitsIn (agenda ++ items_for due recorded) j f (members due.env)
+      item_there j f r e i = let w : WaitsIn (items_for due recorded) j f (members due.env) = item due.target due.env j f r e i in (w.0, IsIn-right agenda (items_for due recorded) w.0 w.1, w.2, w.3, w.4)
 
-      alive_at : (f : Fact) → IsIn Alive f ⊎ (due.target ≡ Some f) → IsIn Alive f
-      alive_at f (inl a) = a
-      alive_at f (inr e) = lives f e
+      met_at : (f : Fact) → IsIn Met f ⊎ (due.target ≡ Some f) → IsIn Met f
+      met_at f (inl a) = a
+      met_at f (inr e) = were_met f e
 
-      pub holds_put : IsPropagating (stock slots) slot (IsIn Alive) (KeptIn after) (RecordedIn recorded) (DueIn dues) (WaitsIn (agenda ++ items_for due recorded))
+      pub holds_put : IsPropagating (stock slots) slot (IsIn Met) (KeptIn after) (RecordedIn recorded) (DueIn dues) (WaitsIn (agenda ++ items_for due recorded))
       holds_put =
-          whole.added (stock slots) slot (IsIn Alive) (KeptIn labels) (RecordedIn recorded) (DueIn (due ∷ dues)) (WaitsIn agenda) was (DueIn dues) due.target (members due.env) rest fewer
+          whole.added (stock slots) slot (IsIn Met) (KeptIn labels) (RecordedIn recorded) (DueIn (due ∷ dues)) (WaitsIn agenda) was (DueIn dues) due.target (members due.env) rest fewer
           (KeptIn after) put not_reached (was.due.environments due.target (members due.env) there) (was.due.sound due.target (members due.env) there)
-          (IsIn Alive) (RecordedIn recorded) (WaitsIn (agenda ++ items_for due recorded)) was.are alive_at (λ j r. inl r) (λ j r. r)
-          (λ j f m w. (w.0, in_front agenda (items_for due recorded) w.0 w.1, w.2, w.3, w.4)) item_there items
+          (IsIn Met) (RecordedIn recorded) (WaitsIn (agenda ++ items_for due recorded)) was.are met_at (λ j r. inl r) (λ j r. r)
+          (λ j f m w. (w.0, IsIn-left agenda (items_for due recorded) w.0 w.1, w.2, w.3, w.4)) item_there items
 
       pub agrees_put : AgreeWithout slot (KeptIn labels) (KeptIn after)
       agrees_put =
-          whole.agrees (stock slots) slot (IsIn Alive) (KeptIn labels) (RecordedIn recorded) (DueIn (due ∷ dues)) (WaitsIn agenda) was (DueIn dues) due.target (members due.env) rest fewer
+          whole.agrees (stock slots) slot (IsIn Met) (KeptIn labels) (RecordedIn recorded) (DueIn (due ∷ dues)) (WaitsIn agenda) was (DueIn dues) due.target (members due.env) rest fewer
           (KeptIn after) put not_reached (was.due.environments due.target (members due.env) there) (was.due.sound due.target (members due.env) there)
-          (IsIn Alive) (RecordedIn recorded) (WaitsIn (agenda ++ items_for due recorded)) was.are alive_at (λ j r. inl r) (λ j r. r)
-          (λ j f m w. (w.0, in_front agenda (items_for due recorded) w.0 w.1, w.2, w.3, w.4)) item_there items
+          (IsIn Met) (RecordedIn recorded) (WaitsIn (agenda ++ items_for due recorded)) was.are met_at (λ j r. inl r) (λ j r. r)
+          (λ j f m w. (w.0, IsIn-left agenda (items_for due recorded) w.0 w.1, w.2, w.3, w.4)) item_there items
 
       stays_reached : (t : Target) (E : Set ℕ) → IsTrue (reaches labels t E) → IsTrue (reaches after t E)
       stays_reached t E h = is_reached_of after t E (reached_stays due.target (members due.env) (KeptIn labels) (KeptIn after) put t E (reached_is labels t E h))

@@ -1,4 +1,5 @@
-pub mod Nodes
+pub mod Labelled
+pub mod Kept
 pub mod Puts
 pub mod Changed
 pub mod Families

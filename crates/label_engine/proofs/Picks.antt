@@ -1,5 +1,7 @@
 -- An item is carried out.
-use Rattle.std.proofs.Common.{◌≡◌, ℕ, ◌⊎◌, inl, inr, true, false, ◌==◌, cond, IsTrue, true≢false, refl, sym, ap, subst, ◌∙◌, List, [], ◌∷◌, ◌++◌, Option, Some, None, arith}
+use Rattle.std.proofs.Common.{◌≡◌, ℕ, ◌<◌, length, IfSome, ◌⊎◌, inl, inr, true, false, ◌==◌, cond, IsTrue, true≢false, refl, sym, ap, subst, ◌∙◌, List, [], ◌∷◌, ◌++◌, Option, Some, None, arith}
+use Rattle.std.proofs.lemmas.Bool.{or_cases, or_left, or_right}
+use Rattle.environment_sets.proofs.Membership.{IsIn-append, IsIn-left, IsIn-right}
 use Rattle.std.proofs.lemmas.Bool.Decides.{nat_tests}
 use Rattle.circuit_model.specs.declared.model.Fact.{Fact}
 use Rattle.circuit_model.specs.declared.model.Assumption.{Assumption}
@@ -7,18 +9,20 @@ use Rattle.circuit_model.specs.Stock.{Stock, IsEnvironment, Has}
 use Rattle.environment_sets.specs.Sets.{Set, ◌⊆◌, ◌∪◌, no_elements}
 use Rattle.environment_sets.specs.Members.{members}
 use Rattle.environment_sets.specs.Lists.{IsIn}
-use Rattle.propagation.specs.Propagating.{Target, Inference, HasAt, Leads, HasMaker, AreChosen, SomeWaits, IsDue}
+use Rattle.propagation.specs.Propagating.{Target, RecordedInference, HasAt, Leads, HasMaker, AreChosen, SomeWaits, IsDue}
 use Rattle.propagation.proofs.Unions.{leads_on, has_more, maker_some}
 use Rattle.propagation.proofs.Whole as whole
-use Rattle.label_engine.specs.declared.labels.Labels.{Labels}
-use Rattle.label_engine.specs.declared.labels.Due.{Due}
+use Rattle.label_engine.specs.declared.nodes.Nodes.{Nodes}
+use Rattle.label_engine.specs.declared.nodes.Insertion.{Insertion}
 use Rattle.inference_search.specs.declared.inferred.Inferred.{Inferred}
-use Rattle.label_engine.specs.declared.work.Item.{Item}
-use Rattle.label_engine.specs.Labels.{facts_of, KeptIn}
-use Rattle.label_engine.specs.Work.{is_same_target, partner, made_by, DueIn, WaitsIn, Holds, IsUnion, HasUnions}
-use Rattle.inference_search.specs.Slots.{stock}
+use Rattle.label_engine.specs.declared.update.Pending.{Pending}
+use Rattle.label_engine.specs.Nodes.{facts_of, KeptIn}
+use Rattle.label_engine.specs.Update.{is_same_target, other_fact, made_by, DueIn, WaitsIn, Holds, IsUnion, HasUnions}
+use Rattle.assumption_slots.specs.Slots.{stock}
+use Rattle.assumption_slots.proofs.Remembered.{some_within}
+use Rattle.environment_sets.specs.declared.environment.TheConstants.{SLOTS}
 use Rattle.inference_search.specs.Inferences.{facts, inference, RecordedIn}
-use Rattle.label_engine.proofs.Families.{in_front, in_back, in_either, either, either_left, either_right, same_target, target_same}
+use Rattle.label_engine.proofs.Families.{same_target, target_same}
 
 maker_is : (maker : Option ℕ) (n : ℕ) → IsTrue (made_by maker n) → maker ≡ Some n
 maker_is None n h = absurd (true≢false (sym h))
@@ -27,16 +31,16 @@ maker_is (Some k) n h = let e : k ≡ n = grind (arith, nat_tests) in ap (λ x. 
 is_maker_of : (maker : Option ℕ) (n : ℕ) → maker ≡ Some n → IsTrue (made_by maker n)
 is_maker_of maker n e = let P : Option ℕ → Type 0 = λ m. IsTrue (made_by m n) in subst P (sym e) (let h : IsTrue (n == n) = grind (arith, nat_tests) in h)
 
--- the partner and the fact are all that the inference goes from
-from_at_or_partner : (a b : Option Fact) (i : Inferred) → i.first ≡ a → i.second ≡ b → (at : Fact) → IsIn (facts a b) at → (f : Fact) → IsIn (facts a b) f → (f ≡ at) ⊎ (cond (is_same_target a (Some at)) b a ≡ Some f)
-from_at_or_partner None None i ea eb at h f g = absurd h
-from_at_or_partner (Some a) None i ea eb at (inl h) f (inl g) = inl (sym g ∙ h)
-from_at_or_partner (Some a) None i ea eb at (inr h) f g = absurd h
-from_at_or_partner (Some a) None i ea eb at h f (inr g) = absurd g
-from_at_or_partner None (Some b) i ea eb at (inl h) f (inl g) = inl (sym g ∙ h)
-from_at_or_partner None (Some b) i ea eb at (inr h) f g = absurd h
-from_at_or_partner None (Some b) i ea eb at h f (inr g) = absurd g
-from_at_or_partner (Some a) (Some b) i ea eb at h f g =
+-- the other_fact and the fact are all that the inference goes from
+from_at_or_other : (a b : Option Fact) (i : Inferred) → i.first ≡ a → i.second ≡ b → (at : Fact) → IsIn (facts a b) at → (f : Fact) → IsIn (facts a b) f → (f ≡ at) ⊎ (cond (is_same_target a (Some at)) b a ≡ Some f)
+from_at_or_other None None i ea eb at h f g = absurd h
+from_at_or_other (Some a) None i ea eb at (inl h) f (inl g) = inl (sym g ∙ h)
+from_at_or_other (Some a) None i ea eb at (inr h) f g = absurd h
+from_at_or_other (Some a) None i ea eb at h f (inr g) = absurd g
+from_at_or_other None (Some b) i ea eb at (inl h) f (inl g) = inl (sym g ∙ h)
+from_at_or_other None (Some b) i ea eb at (inr h) f g = absurd h
+from_at_or_other None (Some b) i ea eb at h f (inr g) = absurd g
+from_at_or_other (Some a) (Some b) i ea eb at h f g =
     elim (is_same_target (Some a) (Some at)) as (λ t. is_same_target (Some a) (Some at) ≡ t → (f ≡ at) ⊎ (cond t (Some b) (Some a) ≡ Some f)) [
       | true ↦ λ same. elim g [
         | inl ga ↦ let aat : Some a ≡ Some at = same_target (Some a) (Some at) same in inl (let e : a ≡ at = cc in sym ga ∙ e)
@@ -55,14 +59,14 @@ from_at_or_partner (Some a) (Some b) i ea eb at h f g =
     ] refl
 
 -- what is in a union
-module _ (item : Item) (A : Set ℕ) (d : Due) (u : IsUnion item A d) where
+module _ (item : Pending) (A : Set ℕ) (d : Insertion) (u : IsUnion item A d) where
   joined : (n : ℕ) → members d.env n ≡ ((members item.env ∪ A) ∪ made_by item.inferred.maker) n
   joined n = ap (λ (F : Set ℕ). F n) u.joined
 
   of_union : (n : ℕ) → IsTrue (members d.env n) → IsTrue (members item.env n) ⊎ (IsTrue (A n) ⊎ (item.inferred.maker ≡ Some n))
   of_union n h =
-      elim (either ((members item.env ∪ A) n) _ (sym (joined n) ∙ h)) [
-        | inl r ↦ elim (either (members item.env n) (A n) r) [ inl a ↦ inl a | inr b ↦ inr (inl b) ]
+      elim (or_cases ((members item.env ∪ A) n) _ (sym (joined n) ∙ h)) [
+        | inl r ↦ elim (or_cases (members item.env n) (A n) r) [ inl a ↦ inl a | inr b ↦ inr (inl b) ]
         | inr m ↦ inr (inr (maker_is item.inferred.maker n m))
       ]
 
@@ -75,27 +79,27 @@ module _ (item : Item) (A : Set ℕ) (d : Due) (u : IsUnion item A d) where
       ]
 
   in_union_maker : HasMaker item.inferred.maker (members d.env)
-  in_union_maker n e = joined n ∙ either_right ((members item.env ∪ A) n) _ (is_maker_of item.inferred.maker n e)
+  in_union_maker n e = joined n ∙ or_right ((members item.env ∪ A) n) _ (is_maker_of item.inferred.maker n e)
 
   in_union_at : members item.env ⊆ members d.env
-  in_union_at n h = joined n ∙ either_left ((members item.env ∪ A) n) _ (either_left _ _ h)
+  in_union_at n h = joined n ∙ or_left ((members item.env ∪ A) n) _ (or_left _ _ h)
 
   in_union_other : A ⊆ members d.env
-  in_union_other n h = joined n ∙ either_left ((members item.env ∪ A) n) _ (either_right (members item.env n) _ h)
+  in_union_other n h = joined n ∙ or_left ((members item.env ∪ A) n) _ (or_right (members item.env n) _ h)
 
-module _ (slots : List (Option Assumption)) (slot : ℕ) (labels : Labels) (recorded : List Inferred) (dues dues' : List Due) (agenda : List Item) (item : Item)
+module _ (slots : List (Option Assumption)) (slot : ℕ) (labels : Nodes) (recorded : List Inferred) (dues dues' : List Insertion) (agenda : List Pending) (item : Pending)
     (was : Holds slots slot labels recorded dues (item ∷ agenda)) (u : HasUnions item labels dues dues') where
   abbrev S : Stock ℕ
   S = stock slots
 
-  abbrev It : Inference
+  abbrev It : RecordedInference
   It = inference item.inferred
 
   it_waits : WaitsIn (item ∷ agenda) It item.at (members item.env)
   it_waits = (item, inl refl, refl, refl, refl)
 
-  left_waits : (i : Inference) (g : Fact) (m : Set ℕ) → WaitsIn (item ∷ agenda) i g m → WaitsIn agenda i g m ⊎ ((i ≡ It) × (g ≡ item.at) × (m ≡ members item.env))
-  left_waits i g m (x, inl e, a, b, c) = inr (sym a ∙ sym (ap (λ (y : Item). inference y.inferred) e), sym b ∙ sym (ap (λ (y : Item). y.at) e), sym c ∙ sym (ap (λ (y : Item). members y.env) e))
+  left_waits : (i : RecordedInference) (g : Fact) (m : Set ℕ) → WaitsIn (item ∷ agenda) i g m → WaitsIn agenda i g m ⊎ ((i ≡ It) × (g ≡ item.at) × (m ≡ members item.env))
+  left_waits i g m (x, inl e, a, b, c) = inr (sym a ∙ sym (ap (λ (y : Pending). inference y.inferred) e), sym b ∙ sym (ap (λ (y : Pending). y.at) e), sym c ∙ sym (ap (λ (y : Pending). members y.env) e))
   left_waits i g m (x, inr l, a, b, c) = inl (x, l, a, b, c)
 
   leads : Leads S It.from It.maker It.to
@@ -104,18 +108,18 @@ module _ (slots : List (Option Assumption)) (slot : ℕ) (labels : Labels) (reco
   at_from : IsIn It.from item.at
   at_from = was.waiting.antecedent It item.at (members item.env) it_waits
 
-  -- a union with what has the partner is sound
-  union_environment : (A : Set ℕ) (d : Due) → IsUnion item A d → IsEnvironment S A → IsEnvironment S (members d.env)
+  -- a union with what has the other_fact is sound
+  union_environment : (A : Set ℕ) (d : Insertion) → IsUnion item A d → IsEnvironment S A → IsEnvironment S (members d.env)
   union_environment A d is env n h =
       elim (of_union item A d is n h) [
         | inl a ↦ was.waiting.environment It item.at (members item.env) it_waits n a
         | inr r ↦ elim r [ inl b ↦ env n b | inr m ↦ maker_some S It.from It.maker It.to leads n m ]
       ]
 
-  union_has : (A : Set ℕ) (d : Due) → IsUnion item A d → ((f : Fact) → partner item.inferred item.at ≡ Some f → Has S f A) → HasAt S d.target (members d.env)
+  union_has : (A : Set ℕ) (d : Insertion) → IsUnion item A d → ((f : Fact) → other_fact item.inferred item.at ≡ Some f → Has S f A) → HasAt S d.target (members d.env)
   union_has A d is has =
       let P : Target → Type 0 = λ t. HasAt S t (members d.env) in
-      subst P (sym is.target) (leads_on S (members d.env) It.from It.maker It.to leads (in_union_maker item A d is) (λ f i. elim (from_at_or_partner item.inferred.first item.inferred.second item.inferred refl refl item.at at_from f i) [
+      subst P (sym is.target) (leads_on S (members d.env) It.from It.maker It.to leads (in_union_maker item A d is) (λ f i. elim (from_at_or_other item.inferred.first item.inferred.second item.inferred refl refl item.at at_from f i) [
         | inl e ↦ let Q : Fact → Type 0 = λ g. Has S g (members d.env) in subst Q (sym e) (has_more S (members d.env) (Some item.at) (members item.env) (in_union_at item A d is) (was.waiting.sound It item.at (members item.env) it_waits))
         | inr e ↦ has_more S (members d.env) (Some f) A (in_union_other item A d is) (has f e)
       ]))
@@ -145,11 +149,11 @@ module _ (slots : List (Option Assumption)) (slot : ℕ) (labels : Labels) (reco
   abbrev IsDueNow : Set ℕ → Type 0
   IsDueNow E = IsDue (KeptIn labels) (DueIn dues') item.inferred.to E
 
-  due_of : (A E : Set ℕ) (d : Due) → IsIn dues' d → IsUnion item A d → members item.env ⊆ E → A ⊆ E → HasMaker item.inferred.maker E → IsDueNow E
+  due_of : (A E : Set ℕ) (d : Insertion) → IsIn dues' d → IsUnion item A d → members item.env ⊆ E → A ⊆ E → HasMaker item.inferred.maker E → IsDueNow E
   due_of A E d i is at inside maker = inr (members d.env, (d, i, is.target, refl), union_inside item A d is E at inside maker)
 
-  with_partner : (g : Fact) (m E : Set ℕ) → partner item.inferred item.at ≡ Some g → KeptIn labels (Some g) m → m ⊆ E → members item.env ⊆ E → HasMaker item.inferred.maker E → IsDueNow E
-  with_partner g m E e kept inside at maker = let d : (d : Due) × IsIn dues' d × IsUnion item m d = u.each g m e kept in due_of m E d.0 d.1 d.2 at inside maker
+  with_other : (g : Fact) (m E : Set ℕ) → other_fact item.inferred item.at ≡ Some g → KeptIn labels (Some g) m → m ⊆ E → members item.env ⊆ E → HasMaker item.inferred.maker E → IsDueNow E
+  with_other g m E e kept inside at maker = let d : (d : Insertion) × IsIn dues' d × IsUnion item m d = u.each g m e kept in due_of m E d.0 d.1 d.2 at inside maker
 
   same_at : (m E : Set ℕ) → m ≡ members item.env → m ⊆ E → members item.env ⊆ E
   same_at m E e inside = let P : Set ℕ → Type 0 = λ F. F ⊆ E in subst P e inside
@@ -163,39 +167,39 @@ module _ (slots : List (Option Assumption)) (slot : ℕ) (labels : Labels) (reco
   unions (Some a) None ea eb [] E c maker w = absurd w
   unions (Some a) None ea eb (m ∷ ms) E c maker (inr w) = absurd (elim ms as (λ (l : List (Set ℕ)). SomeWaits Now [] l → ⊥) [ [] ↦ λ h. h | x ∷ xs ↦ λ h. h ] w)
   unions (Some a) None ea eb (m ∷ ms) E c maker (inl w) =
-      let k : (k : Due) × IsIn dues' k × IsUnion item no_elements k = u.alone (alone_first w.0) in
+      let k : (k : Insertion) × IsIn dues' k × IsUnion item no_elements k = u.alone (alone_first w.0) in
       due_of no_elements E k.0 k.1 k.2 (same_at m E w.1 c.1) (λ n h. absurd (true≢false (sym h))) maker
     where
-      alone_first : a ≡ item.at → partner item.inferred item.at ≡ None
+      alone_first : a ≡ item.at → other_fact item.inferred item.at ≡ None
       alone_first e = let same : IsTrue (is_same_target item.inferred.first (Some item.at)) = target_same item.inferred.first (Some item.at) (ea ∙ ap (λ x. Some x) e) in rw same eb
   unions None (Some b) ea eb [] E c maker w = absurd w
   unions None (Some b) ea eb (m ∷ ms) E c maker (inr w) = absurd (elim ms as (λ (l : List (Set ℕ)). SomeWaits Now [] l → ⊥) [ [] ↦ λ h. h | x ∷ xs ↦ λ h. h ] w)
   unions None (Some b) ea eb (m ∷ ms) E c maker (inl w) =
-      let k : (k : Due) × IsIn dues' k × IsUnion item no_elements k = u.alone (rw ea refl) in
+      let k : (k : Insertion) × IsIn dues' k × IsUnion item no_elements k = u.alone (rw ea refl) in
       due_of no_elements E k.0 k.1 k.2 (same_at m E w.1 c.1) (λ n h. absurd (true≢false (sym h))) maker
   unions (Some a) (Some b) ea eb [] E c maker w = absurd w
   unions (Some a) (Some b) ea eb (m ∷ []) E c maker w = absurd c.2
   unions (Some a) (Some b) ea eb (m ∷ n ∷ ms) E c maker w =
       elim (is_same_target item.inferred.first (Some item.at)) as (λ t. is_same_target item.inferred.first (Some item.at) ≡ t → IsDueNow E) [
         | true ↦ λ same.
-            let p : partner item.inferred item.at ≡ Some b = rw same eb in
+            let p : other_fact item.inferred item.at ≡ Some b = rw same eb in
             elim w [
-              | inl here ↦ with_partner b n E p c.2.0 c.2.1 (same_at m E here.1 c.1) maker
+              | inl here ↦ with_other b n E p c.2.0 c.2.1 (same_at m E here.1 c.1) maker
               | inr later ↦ elim later [
                 | inl there ↦
                     let a_at : Some a ≡ Some item.at = sym ea ∙ same_target item.inferred.first (Some item.at) same in
                     let ab : a ≡ b = (let x : a ≡ item.at = cc in x ∙ sym there.0) in
                     let P : Fact → Type 0 = λ g. KeptIn labels (Some g) m in
-                    with_partner b m E p (subst P ab c.0) c.1 (same_at n E there.1 c.2.1) maker
+                    with_other b m E p (subst P ab c.0) c.1 (same_at n E there.1 c.2.1) maker
                 | inr bad ↦ absurd (elim ms as (λ (l : List (Set ℕ)). SomeWaits Now [] l → ⊥) [ [] ↦ λ h. h | x ∷ xs ↦ λ h. h ] bad)
               ]
             ]
         | false ↦ λ differ.
-            let p : partner item.inferred item.at ≡ Some a = rw differ ea in
+            let p : other_fact item.inferred item.at ≡ Some a = rw differ ea in
             elim w [
               | inl here ↦ absurd (true≢false (sym (target_same item.inferred.first (Some item.at) (ea ∙ ap (λ x. Some x) here.0)) ∙ differ))
               | inr later ↦ elim later [
-                | inl there ↦ with_partner a m E p c.0 c.1 (same_at n E there.1 c.2.1) maker
+                | inl there ↦ with_other a m E p c.0 c.1 (same_at n E there.1 c.2.1) maker
                 | inr bad ↦ absurd (elim ms as (λ (l : List (Set ℕ)). SomeWaits Now [] l → ⊥) [ [] ↦ λ h. h | x ∷ xs ↦ λ h. h ] bad)
               ]
             ]
@@ -203,21 +207,33 @@ module _ (slots : List (Option Assumption)) (slot : ℕ) (labels : Labels) (reco
 
   pub holds_picked : Holds slots slot labels recorded dues' agenda
   holds_picked =
-      whole.picked S slot (IsIn (facts_of labels.nodes.items)) (KeptIn labels) (RecordedIn recorded) (DueIn dues) (WaitsIn (item ∷ agenda)) was (DueIn dues') (WaitsIn agenda) It item.at (members item.env)
+      whole.picked S slot (IsIn (facts_of labels.list.items)) (KeptIn labels) (RecordedIn recorded) (DueIn dues) (WaitsIn (item ∷ agenda)) was (DueIn dues') (WaitsIn agenda) It item.at (members item.env)
       left_waits (λ i g m w. (w.0, inr w.1, w.2, w.3, w.4)) (λ t E k. (k.0, u.stays k.0 k.1, k.2, k.3)) (record { environments = due_environments; sound = due_has })
       (unions item.inferred.first item.inferred.second refl refl)
 
 -- the item's only fact is the one at which it waits
-pub alone : (item : Item) (labels : Labels) (old : List Due) (d : Due) → partner item.inferred item.at ≡ None → IsUnion item no_elements d → HasUnions item labels old (old ++ d ∷ [])
+pub alone : (item : Pending) (labels : Nodes) (old : List Insertion) (d : Insertion) → other_fact item.inferred item.at ≡ None → IsUnion item no_elements d → HasUnions item labels old (old ++ d ∷ [])
 alone item labels old d p is = record {
-  stays = λ x i. in_front old (d ∷ []) x i;
-  alone = λ _. (d, in_back old (d ∷ []) d (inl refl), is);
+  stays = λ x i. IsIn-left old (d ∷ []) x i;
+  alone = λ _. (d, IsIn-right old (d ∷ []) d (inl refl), is);
   each = λ g E e k. absurd (let bad : None ≡ Some g = sym p ∙ e in cc);
-  only = λ x i. elim (in_either old (d ∷ []) x i) [
+  only = λ x i. elim (IsIn-append old (d ∷ []) x i) [
     | inl o ↦ inl o
     | inr l ↦ elim l [
-      | inl e ↦ inr (inl (p, (let P : Due → Type 0 = λ y. IsUnion item no_elements y in subst P e is)))
+      | inl e ↦ inr (inl (p, (let P : Insertion → Type 0 = λ y. IsUnion item no_elements y in subst P e is)))
       | inr bad ↦ absurd bad
     ]
   ];
 }
+
+-- the maker of what waits is below the bound
+pub maker_fits :
+    (slots : List (Option Assumption)) (slot : ℕ) (nodes : Nodes) (recorded : List Inferred) (dues : List Insertion) (agenda : List Pending) (item : Pending)
+    → Holds slots slot nodes recorded dues (item ∷ agenda) → length slots ≡ SLOTS → IfSome item.inferred.maker (λ k. k < SLOTS)
+maker_fits slots slot nodes recorded dues agenda item was wide =
+    let It : RecordedInference = inference item.inferred in
+    let leads : Leads (stock slots) It.from It.maker It.to = was.are.leads It (was.waiting.inference It item.at (members item.env) (item, inl refl, refl, refl, refl)) in
+    elim item.inferred.maker as (λ m. item.inferred.maker ≡ m → IfSome m (λ k. k < SLOTS)) [
+      | None ↦ λ _. tt
+      | Some k ↦ λ is. subst (λ (n : ℕ). k < n) wide (some_within slots k (maker_some (stock slots) It.from It.maker It.to leads k is))
+    ] refl

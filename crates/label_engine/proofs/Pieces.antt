@@ -1,5 +1,6 @@
 -- The steps of the program, joined.
 use Rattle.std.proofs.Common.{◌≡◌, ℕ, Bool, ◌^◌, ◌<◌, inl, inr, refl, sym, ap, subst, ◌∙◌, ◌↔◌, List, [], ◌∷◌, ◌++◌, length, Option, Some, None, Result, Ok, Err, IfOk, take, drop, get_or, suc, drop-cons, append_assoc, append-nil, OnOk, OnErr, arith}
+use Rattle.environment_sets.proofs.Membership.{AreDistinct-push, IsIn-append, IsIn-left, IsIn-right}
 use Rattle.std.specs.List.{slice_get, remove}
 use Rattle.std.proofs.lemmas.List.{take-append-drop, map-append}
 use Rattle.std.proofs.lemmas.Option.{slice_get_within, get_or_from_slice_get}
@@ -9,29 +10,29 @@ use Rattle.circuit_model.specs.Settled.{IsSettled}
 use Rattle.environment_sets.specs.Sets.{Set}
 use Rattle.environment_sets.specs.Members.{members}
 use Rattle.environment_sets.specs.Lists.{IsIn, AreDistinct}
-use Rattle.propagation.specs.Propagating.{Target, Family, Inference, IsReached, AgreeWithout, IsPropagating}
+use Rattle.propagation.specs.Propagating.{Target, Family, RecordedInference, IsReached, AgreeWithout, IsPropagating}
 use Rattle.propagation.proofs.Whole as whole
 use Rattle.propagation.specs.Uncovered.{uncovered, TargetFits}
-use Rattle.label_engine.specs.declared.labels.Node.{Node}
-use Rattle.label_engine.specs.declared.labels.Labels.{Labels}
-use Rattle.label_engine.specs.declared.labels.Due.{Due}
+use Rattle.label_engine.specs.declared.nodes.Node.{Node}
+use Rattle.label_engine.specs.declared.nodes.Nodes.{Nodes}
+use Rattle.label_engine.specs.declared.nodes.Insertion.{Insertion}
 use Rattle.inference_search.specs.declared.inferred.Inferred.{Inferred}
-use Rattle.label_engine.specs.declared.work.Item.{Item}
-use Rattle.label_engine.specs.declared.work.Work.{Work}
-use Rattle.label_engine.specs.Labels.{facts_of, label_of, KeptIn, reaches}
-use Rattle.label_engine.specs.Work.{Survives, partner, DueIn, WaitsIn, Propagates, Holds, DueAlso, HasUnions, HasUnionsWith, IsEnlivened, KeptInSame, IsPutThere, IsReady, IsDone, CarriesOn, AgreesWith}
-use Rattle.inference_search.specs.Slots.{stock}
+use Rattle.label_engine.specs.declared.update.Pending.{Pending}
+use Rattle.label_engine.specs.declared.update.Update.{Update}
+use Rattle.label_engine.specs.Nodes.{facts_of, label_in, KeptIn, reaches}
+use Rattle.label_engine.specs.Update.{Survives, other_fact, DueIn, WaitsIn, Propagates, Holds, DueAlso, HasUnions, HasUnionsWith, HasMet, AreKeptAlike, IsPutThere, IsReady, IsAtRest, CarriesOn, AgreesWith}
+use Rattle.assumption_slots.specs.Slots.{stock}
 use Rattle.inference_search.specs.Inferences.{RecordedIn}
-use Rattle.label_engine.proofs.Families.{in_back, in_front, in_either, distinct_more, same_family, same_test, label_of-met}
-use Rattle.label_engine.proofs.Holding.{holds_reached, holds_alive, holds_put, agrees_put, fewer_uncovered, load_falls}
+use Rattle.label_engine.proofs.Families.{same_family, same_test, label_in-met}
+use Rattle.label_engine.proofs.Holding.{holds_reached, holds_met, holds_put, agrees_put, fewer_uncovered, load_falls}
 
 pub IfOk-map : {A E : Type 0} {P Q : A → Type 0} → (r : Result A E) → ((x : A) → P x → Q x) → IfOk r P → IfOk r Q
 IfOk-map (Ok x) f h = f x h
 IfOk-map (Err e) f h = h
 
--- the unions with the partner's label are all unions
-pub unions_with_partner : (item : Item) (labels : Labels) (g : Fact) (old new : List Due) → partner item.inferred item.at ≡ Some g → HasUnionsWith item (label_of labels.nodes.items g) old new → HasUnions item labels old new
-unions_with_partner item labels g old new p u = record {
+-- the unions with the other_fact's label are all unions
+pub unions_with_other : (item : Pending) (labels : Nodes) (g : Fact) (old new : List Insertion) → other_fact item.inferred item.at ≡ Some g → HasUnionsWith item (label_in labels.list.items g) old new → HasUnions item labels old new
+unions_with_other item labels g old new p u = record {
   stays = u.stays;
   alone = λ e. absurd (let bad : Some g ≡ None = sym p ∙ e in cc);
   each = λ h E e k. let both : Some h ≡ Some g = sym e ∙ p in let same : h ≡ g = cc in let P : Fact → Type 0 = λ x. KeptIn labels (Some x) E in u.each E (subst P same k);
@@ -42,86 +43,86 @@ unions_with_partner item labels g old new p u = record {
 }
 
 -- a fact is met, or memory ran out
-module _ {A E : Type 0} (r : Result A E) (old new : Labels) (f : Fact) (ok : OnOk r (new.nodes.items ≡ old.nodes.items ++ record { fact = f; label = [] } ∷ [])) (err : OnErr r (new.nodes.items ≡ old.nodes.items)) where
-  pub labels_met : (g : Fact) → label_of new.nodes.items g ≡ label_of old.nodes.items g
+module _ {A E : Type 0} (r : Result A E) (old new : Nodes) (f : Fact) (ok : OnOk r (new.list.items ≡ old.list.items ++ record { fact = f; label = [] } ∷ [])) (err : OnErr r (new.list.items ≡ old.list.items)) where
+  pub labels_met : (g : Fact) → label_in new.list.items g ≡ label_in old.list.items g
   labels_met g =
-      elim r as (λ (x : Result A E). OnOk x (new.nodes.items ≡ old.nodes.items ++ record { fact = f; label = [] } ∷ []) → OnErr x (new.nodes.items ≡ old.nodes.items) → label_of new.nodes.items g ≡ label_of old.nodes.items g) [
-        | Ok x ↦ λ o _. ap (λ l. label_of l g) o ∙ label_of-met old.nodes.items f g
-        | Err e ↦ λ _ o. ap (λ l. label_of l g) o
+      elim r as (λ (x : Result A E). OnOk x (new.list.items ≡ old.list.items ++ record { fact = f; label = [] } ∷ []) → OnErr x (new.list.items ≡ old.list.items) → label_in new.list.items g ≡ label_in old.list.items g) [
+        | Ok x ↦ λ o _. ap (λ l. label_in l g) o ∙ label_in-met old.list.items f g
+        | Err e ↦ λ _ o. ap (λ l. label_in l g) o
       ] ok err
 
-  pub facts_met : (born : List Fact) × (facts_of new.nodes.items ≡ facts_of old.nodes.items ++ born)
+  pub facts_met : (newly : List Fact) × (facts_of new.list.items ≡ facts_of old.list.items ++ newly)
   facts_met =
-      elim r as (λ (x : Result A E). OnOk x (new.nodes.items ≡ old.nodes.items ++ record { fact = f; label = [] } ∷ []) → OnErr x (new.nodes.items ≡ old.nodes.items) → (born : List Fact) × (facts_of new.nodes.items ≡ facts_of old.nodes.items ++ born)) [
-        | Ok x ↦ λ o _. (f ∷ [], ap facts_of o ∙ map-append (λ (n : Node). n.fact) old.nodes.items (record { fact = f; label = [] } ∷ []))
-        | Err e ↦ λ _ o. ([], ap facts_of o ∙ sym (append-nil (facts_of old.nodes.items)))
+      elim r as (λ (x : Result A E). OnOk x (new.list.items ≡ old.list.items ++ record { fact = f; label = [] } ∷ []) → OnErr x (new.list.items ≡ old.list.items) → (newly : List Fact) × (facts_of new.list.items ≡ facts_of old.list.items ++ newly)) [
+        | Ok x ↦ λ o _. (f ∷ [], ap facts_of o ∙ map-append (λ (n : Node). n.fact) old.list.items (record { fact = f; label = [] } ∷ []))
+        | Err e ↦ λ _ o. ([], ap facts_of o ∙ sym (append-nil (facts_of old.list.items)))
       ] ok err
 
   -- no fact comes to have two nodes, where it had none
-  pub once_met : (IsIn (facts_of old.nodes.items) f → ⊥) → AreDistinct (facts_of old.nodes.items) → AreDistinct (facts_of new.nodes.items)
-  once_met dead d =
-      elim r as (λ (x : Result A E). OnOk x (new.nodes.items ≡ old.nodes.items ++ record { fact = f; label = [] } ∷ []) → OnErr x (new.nodes.items ≡ old.nodes.items) → AreDistinct (facts_of new.nodes.items)) [
-        | Ok x ↦ λ o _. subst AreDistinct (sym (ap facts_of o ∙ map-append (λ (n : Node). n.fact) old.nodes.items (record { fact = f; label = [] } ∷ []))) (distinct_more (facts_of old.nodes.items) f d dead)
+  pub once_met : (IsIn (facts_of old.list.items) f → ⊥) → AreDistinct (facts_of old.list.items) → AreDistinct (facts_of new.list.items)
+  once_met unmet d =
+      elim r as (λ (x : Result A E). OnOk x (new.list.items ≡ old.list.items ++ record { fact = f; label = [] } ∷ []) → OnErr x (new.list.items ≡ old.list.items) → AreDistinct (facts_of new.list.items)) [
+        | Ok x ↦ λ o _. subst AreDistinct (sym (ap facts_of o ∙ map-append (λ (n : Node). n.fact) old.list.items (record { fact = f; label = [] } ∷ []))) (AreDistinct-push (facts_of old.list.items) f d unmet)
         | Err e ↦ λ _ o. subst AreDistinct (sym (ap facts_of o)) d
       ] ok err
 
-pub agrees_same : (old new : Work) → KeptInSame old new → AgreesWith old new
-agrees_same old new s t E _ = let P : Family → Type 0 = λ K. K t E ↔ KeptIn new.labels t E in subst P (same_family old.labels new.labels s.labels s.nogoods) ((λ (k : KeptIn new.labels t E). k), (λ (k : KeptIn new.labels t E). k))
+pub agrees_same : (old new : Update) → AreKeptAlike old new → AgreesWith old new
+agrees_same old new s t E _ = let P : Family → Type 0 = λ K. K t E ↔ KeptIn new.nodes t E in subst P (same_family old.nodes new.nodes s.labels s.nogoods) ((λ (k : KeptIn new.nodes t E). k), (λ (k : KeptIn new.nodes t E). k))
 
-pub survives_same : (w : Work) → Survives w w
+pub survives_same : (w : Update) → Survives w w
 survives_same w = record {
-  agrees = λ t E _. ((λ (k : KeptIn w.labels t E). k), (λ (k : KeptIn w.labels t E). k));
+  agrees = λ t E _. ((λ (k : KeptIn w.nodes t E). k), (λ (k : KeptIn w.nodes t E). k));
   same_slot = refl;
   added = [];
   recorded = sym (append-nil w.recorded.items);
-  born = [];
-  alive = sym (append-nil (facts_of w.labels.nodes.items));
-  once = λ (d : AreDistinct (facts_of w.labels.nodes.items)). d;
+  newly = [];
+  met = sym (append-nil (facts_of w.nodes.list.items));
+  once = λ (d : AreDistinct (facts_of w.nodes.list.items)). d;
 }
 
 -- one step after another
 agree_trans : (slot : ℕ) (a b c : Family) → AgreeWithout slot a b → AgreeWithout slot b c → AgreeWithout slot a c
 agree_trans slot a b c x y t E out = ((λ (k : a t E). (y t E out).0 ((x t E out).0 k)), (λ (k : c t E). (x t E out).1 ((y t E out).1 k)))
 
-pub agrees_on : (a b c : Work) → AgreesWith a b → b.slot ≡ a.slot → AgreesWith b c → AgreesWith a c
-agrees_on a b c first same then = agree_trans a.slot (KeptIn a.labels) (KeptIn b.labels) (KeptIn c.labels) first (let P : ℕ → Type 0 = λ s. AgreeWithout s (KeptIn b.labels) (KeptIn c.labels) in subst P same then)
+pub agrees_on : (a b c : Update) → AgreesWith a b → b.slot ≡ a.slot → AgreesWith b c → AgreesWith a c
+agrees_on a b c first same then = agree_trans a.slot (KeptIn a.nodes) (KeptIn b.nodes) (KeptIn c.nodes) first (let P : ℕ → Type 0 = λ s. AgreeWithout s (KeptIn b.nodes) (KeptIn c.nodes) in subst P same then)
 
 pub survives_on :
-    (a b c : Work) → Survives a b → AgreesWith b c → c.slot ≡ b.slot → (added : List Inferred) → c.recorded.items ≡ b.recorded.items ++ added
-    → (born : List Fact) → facts_of c.labels.nodes.items ≡ facts_of b.labels.nodes.items ++ born
-    → (AreDistinct (facts_of b.labels.nodes.items) → AreDistinct (facts_of c.labels.nodes.items)) → Survives a c
-survives_on a b c first agrees slot added recorded born alive once = record {
+    (a b c : Update) → Survives a b → AgreesWith b c → c.slot ≡ b.slot → (added : List Inferred) → c.recorded.items ≡ b.recorded.items ++ added
+    → (newly : List Fact) → facts_of c.nodes.list.items ≡ facts_of b.nodes.list.items ++ newly
+    → (AreDistinct (facts_of b.nodes.list.items) → AreDistinct (facts_of c.nodes.list.items)) → Survives a c
+survives_on a b c first agrees slot added recorded newly met once = record {
   agrees = agrees_on a b c first.agrees first.same_slot agrees;
   same_slot = slot ∙ first.same_slot;
   added = first.added ++ added;
   recorded = recorded ∙ (ap (λ l. l ++ added) first.recorded ∙ append_assoc a.recorded.items first.added added);
-  born = first.born ++ born;
-  alive = alive ∙ (ap (λ l. l ++ born) first.alive ∙ append_assoc (facts_of a.labels.nodes.items) first.born born);
-  once = λ (d : AreDistinct (facts_of a.labels.nodes.items)). once (first.once d);
+  newly = first.newly ++ newly;
+  met = met ∙ (ap (λ l. l ++ newly) first.met ∙ append_assoc (facts_of a.nodes.list.items) first.newly newly);
+  once = λ (d : AreDistinct (facts_of a.nodes.list.items)). once (first.once d);
 }
 
 -- a change of labels alone
-pub survives_then : (a b c : Work) → Survives a b → AgreesWith b c → c.slot ≡ b.slot → c.recorded.items ≡ b.recorded.items → facts_of c.labels.nodes.items ≡ facts_of b.labels.nodes.items → Survives a c
-survives_then a b c first agrees slot recorded alive = record {
+pub survives_then : (a b c : Update) → Survives a b → AgreesWith b c → c.slot ≡ b.slot → c.recorded.items ≡ b.recorded.items → facts_of c.nodes.list.items ≡ facts_of b.nodes.list.items → Survives a c
+survives_then a b c first agrees slot recorded met = record {
   agrees = agrees_on a b c first.agrees first.same_slot agrees;
   same_slot = slot ∙ first.same_slot;
   added = first.added;
   recorded = recorded ∙ first.recorded;
-  born = first.born;
-  alive = alive ∙ first.alive;
-  once = λ (d : AreDistinct (facts_of a.labels.nodes.items)). subst AreDistinct (sym alive) (first.once d);
+  newly = first.newly;
+  met = met ∙ first.met;
+  once = λ (d : AreDistinct (facts_of a.nodes.list.items)). subst AreDistinct (sym met) (first.once d);
 }
 
 module _ (slots : List (Option Assumption)) where
-  pub carries_same : (w : Work) → Propagates slots w → CarriesOn slots w w
+  pub carries_same : (w : Update) → Propagates slots w → CarriesOn slots w w
   carries_same w was = record {
     propagates = was;
-    agrees = λ t E _. ((λ (k : KeptIn w.labels t E). k), (λ (k : KeptIn w.labels t E). k));
+    agrees = λ t E _. ((λ (k : KeptIn w.nodes t E). k), (λ (k : KeptIn w.nodes t E). k));
     same_slot = refl;
     no_more = omega arith;
   }
 
-  pub carries_on : (a b c : Work) → CarriesOn slots a b → CarriesOn slots b c → CarriesOn slots a c
+  pub carries_on : (a b c : Update) → CarriesOn slots a b → CarriesOn slots b c → CarriesOn slots a c
   carries_on a b c first then = record {
     propagates = then.propagates;
     agrees = agrees_on a b c first.agrees first.same_slot then.agrees;
@@ -129,13 +130,13 @@ module _ (slots : List (Option Assumption)) where
     no_more = omega (arith, then.no_more, first.no_more);
   }
 
-  module _ (due : Due) where
-    pub ready_enlivened : (f : Fact) (old new : Work) → DueAlso slots due old → due.target ≡ Some f → (IsIn (facts_of old.labels.nodes.items) f → ⊥) → KeptInSame old new → IsEnlivened slots f old new → IsReady slots due old new
-    ready_enlivened f old new was at dead same e = record {
+  module _ (due : Insertion) where
+    pub ready_now_met : (f : Fact) (old new : Update) → DueAlso slots due old → due.target ≡ Some f → (IsIn (facts_of old.nodes.list.items) f → ⊥) → AreKeptAlike old new → HasMet slots f old new → IsReady slots due old new
+    ready_now_met f old new was at unmet same e = record {
       due_also =
-          let P : Family → Type 0 = λ K. IsPropagating (stock slots) new.slot (IsIn (facts_of new.labels.nodes.items)) K (RecordedIn new.recorded.items) (DueIn (due ∷ new.due.items)) (WaitsIn new.agenda) in
-          subst P (sym (same_family old.labels new.labels same.labels same.nogoods)) (rw (e.slot, e.alive, e.recorded, e.due, e.agenda) (holds_alive slots old.slot old.labels old.recorded.items due old.due.items old.agenda was f dead e.found e.are_found));
-      lives = λ g same_target. rw e.alive (let both : Some f ≡ Some g = sym at ∙ same_target in let gf : f ≡ g = cc in subst (IsIn (facts_of old.labels.nodes.items ++ f ∷ [])) gf (in_back (facts_of old.labels.nodes.items) (f ∷ []) f (inl refl)));
+          let P : Family → Type 0 = λ K. IsPropagating (stock slots) new.slot (IsIn (facts_of new.nodes.list.items)) K (RecordedIn new.recorded.items) (DueIn (due ∷ new.due.items)) (WaitsIn new.agenda) in
+          subst P (sym (same_family old.nodes new.nodes same.labels same.nogoods)) (rw (e.slot, e.met, e.recorded, e.due, e.agenda) (holds_met slots old.slot old.nodes old.recorded.items due old.due.items old.agenda was f unmet e.found e.are_found));
+      were_met = λ g same_target. rw e.met (let both : Some f ≡ Some g = sym at ∙ same_target in let gf : f ≡ g = cc in subst (IsIn (facts_of old.nodes.list.items ++ f ∷ [])) gf (IsIn-right (facts_of old.nodes.list.items) (f ∷ []) f (inl refl)));
       labels_same = same.labels;
       nogoods_same = same.nogoods;
       due_same = e.due;
@@ -143,10 +144,10 @@ module _ (slots : List (Option Assumption)) where
       same_slot = e.slot;
     }
 
-    pub ready_alive : (old : Work) → DueAlso slots due old → ((f : Fact) → due.target ≡ Some f → IsIn (facts_of old.labels.nodes.items) f) → IsReady slots due old old
-    ready_alive old was lives = record {
+    pub ready_met : (old : Update) → DueAlso slots due old → ((f : Fact) → due.target ≡ Some f → IsIn (facts_of old.nodes.list.items) f) → IsReady slots due old old
+    ready_met old was were_met = record {
       due_also = was;
-      lives = lives;
+      were_met = were_met;
       labels_same = λ f. refl;
       nogoods_same = refl;
       due_same = refl;
@@ -154,61 +155,61 @@ module _ (slots : List (Option Assumption)) where
       same_slot = refl;
     }
 
-    pub carries_reached : (old : Work) → DueAlso slots due old → IsReached (KeptIn old.labels) due.target (members due.env) → CarriesOn slots old old
-    carries_reached old was r = carries_same old (holds_reached slots old.slot old.labels old.recorded.items due old.due.items old.agenda was r)
+    pub carries_reached : (old : Update) → DueAlso slots due old → IsReached (KeptIn old.nodes) due.target (members due.env) → CarriesOn slots old old
+    carries_reached old was r = carries_same old (holds_reached slots old.slot old.nodes old.recorded.items due old.due.items old.agenda was r)
 
-    module _ (old mid new : Work) (ready : IsReady slots due old mid) (out : IsReached (KeptIn old.labels) due.target (members due.env) → ⊥) where
-      pub out_mid : IsReached (KeptIn mid.labels) due.target (members due.env) → ⊥
-      out_mid = let P : Family → Type 0 = λ K. IsReached K due.target (members due.env) → ⊥ in subst P (sym (same_family old.labels mid.labels ready.labels_same ready.nogoods_same)) out
+    module _ (old mid new : Update) (ready : IsReady slots due old mid) (out : IsReached (KeptIn old.nodes) due.target (members due.env) → ⊥) where
+      pub out_mid : IsReached (KeptIn mid.nodes) due.target (members due.env) → ⊥
+      out_mid = let P : Family → Type 0 = λ K. IsReached K due.target (members due.env) → ⊥ in subst P (sym (same_family old.nodes mid.nodes ready.labels_same ready.nogoods_same)) out
 
       module _ (put : IsPutThere due mid new) where
         pub agrees_put_there : AgreesWith mid new
-        agrees_put_there = agrees_put slots mid.slot mid.labels mid.recorded.items due mid.due.items mid.agenda ready.due_also out_mid ready.lives new.labels put.put
+        agrees_put_there = agrees_put slots mid.slot mid.nodes mid.recorded.items due mid.due.items mid.agenda ready.due_also out_mid ready.were_met new.nodes put.put
 
         pub carries_put : TargetFits due.target → length new.agenda < 2 ^ 64 → CarriesOn slots old new
         carries_put fits few = record {
-          propagates = rw (put.slot, put.alive, put.recorded, put.due_same, put.agenda) (holds_put slots mid.slot mid.labels mid.recorded.items due mid.due.items mid.agenda ready.due_also out_mid ready.lives new.labels put.put);
+          propagates = rw (put.slot, put.met, put.recorded, put.due_same, put.agenda) (holds_put slots mid.slot mid.nodes mid.recorded.items due mid.due.items mid.agenda ready.due_also out_mid ready.were_met new.nodes put.put);
           agrees = agrees_on old mid new (agrees_same old mid (record { labels = ready.labels_same; nogoods = ready.nogoods_same })) ready.same_slot agrees_put_there;
           same_slot = put.slot ∙ ready.same_slot;
           no_more =
-              let less : uncovered (reaches new.labels) < uncovered (reaches mid.labels) = fewer_uncovered slots mid.slot mid.labels mid.recorded.items due mid.due.items mid.agenda ready.due_also out_mid ready.lives new.labels put.put fits in
-              let less_old : uncovered (reaches new.labels) < uncovered (reaches old.labels) = (let P : (Target → Set ℕ → Bool) → Type 0 = λ r. uncovered (reaches new.labels) < uncovered r in subst P (same_test old.labels mid.labels ready.labels_same ready.nogoods_same) less) in
-              omega (arith, load_falls (uncovered (reaches new.labels)) (uncovered (reaches old.labels)) (length new.agenda) (length old.agenda) less_old few);
+              let less : uncovered (reaches new.nodes) < uncovered (reaches mid.nodes) = fewer_uncovered slots mid.slot mid.nodes mid.recorded.items due mid.due.items mid.agenda ready.due_also out_mid ready.were_met new.nodes put.put fits in
+              let less_old : uncovered (reaches new.nodes) < uncovered (reaches old.nodes) = (let P : (Target → Set ℕ → Bool) → Type 0 = λ r. uncovered (reaches new.nodes) < uncovered r in subst P (same_test old.nodes mid.nodes ready.labels_same ready.nogoods_same) less) in
+              omega (arith, load_falls (uncovered (reaches new.nodes)) (uncovered (reaches old.nodes)) (length new.agenda) (length old.agenda) less_old few);
         }
 
-  module _ (slot : ℕ) (labels : Labels) (recorded : List Inferred) where
-    same_dues : (xs ys : List Due) → ((d : Due) → IsIn xs d ↔ IsIn ys d) → (t : Target) (E : Set ℕ) → DueIn xs t E ↔ DueIn ys t E
+  module _ (slot : ℕ) (labels : Nodes) (recorded : List Inferred) where
+    same_dues : (xs ys : List Insertion) → ((d : Insertion) → IsIn xs d ↔ IsIn ys d) → (t : Target) (E : Set ℕ) → DueIn xs t E ↔ DueIn ys t E
     same_dues xs ys same t E = ((λ (d : DueIn xs t E). (d.0, (same d.0).0 d.1, d.2, d.3)), (λ (d : DueIn ys t E). (d.0, (same d.0).1 d.1, d.2, d.3)))
 
-    same_items : (xs ys : List Item) → ((i : Item) → IsIn xs i ↔ IsIn ys i) → (j : Inference) (f : Fact) (m : Set ℕ) → WaitsIn xs j f m ↔ WaitsIn ys j f m
+    same_items : (xs ys : List Pending) → ((i : Pending) → IsIn xs i ↔ IsIn ys i) → (j : RecordedInference) (f : Fact) (m : Set ℕ) → WaitsIn xs j f m ↔ WaitsIn ys j f m
     same_items xs ys same j f m = ((λ (w : WaitsIn xs j f m). (w.0, (same w.0).0 w.1, w.2, w.3, w.4)), (λ (w : WaitsIn ys j f m). (w.0, (same w.0).1 w.1, w.2, w.3, w.4)))
 
     same : {X : Type 0} (xs : List X) (x : X) → IsIn xs x ↔ IsIn xs x
     same xs x = ((λ (i : IsIn xs x). i), (λ (i : IsIn xs x). i))
 
     -- the last that is due is taken
-    pub holds_popped : (old dues : List Due) (due : Due) (agenda : List Item) → old ≡ dues ++ due ∷ [] → Holds slots slot labels recorded old agenda → Holds slots slot labels recorded (due ∷ dues) agenda
+    pub holds_popped : (old dues : List Insertion) (due : Insertion) (agenda : List Pending) → old ≡ dues ++ due ∷ [] → Holds slots slot labels recorded old agenda → Holds slots slot labels recorded (due ∷ dues) agenda
     holds_popped old dues due agenda e was =
-        whole.reordered (stock slots) slot (IsIn (facts_of labels.nodes.items)) (KeptIn labels) (RecordedIn recorded) (DueIn old) (WaitsIn agenda) was (DueIn (due ∷ dues)) (WaitsIn agenda)
+        whole.reordered (stock slots) slot (IsIn (facts_of labels.list.items)) (KeptIn labels) (RecordedIn recorded) (DueIn old) (WaitsIn agenda) was (DueIn (due ∷ dues)) (WaitsIn agenda)
         (same_dues old (due ∷ dues) moved) (same_items agenda agenda (same agenda))
       where
-        moved : (k : Due) → IsIn old k ↔ IsIn (due ∷ dues) k
+        moved : (k : Insertion) → IsIn old k ↔ IsIn (due ∷ dues) k
         moved k = (
-          (λ (i : IsIn old k). elim (in_either dues (due ∷ []) k (let P : List Due → Type 0 = λ l. IsIn l k in subst P e i)) [ inl a ↦ inr a | inr b ↦ elim b [ inl x ↦ inl x | inr bad ↦ absurd bad ] ]),
-          (λ (i : IsIn (due ∷ dues) k). let P : List Due → Type 0 = λ l. IsIn l k in subst P (sym e) (elim i [ inl x ↦ in_back dues (due ∷ []) k (inl x) | inr a ↦ in_front dues (due ∷ []) k a ])),
+          (λ (i : IsIn old k). elim (IsIn-append dues (due ∷ []) k (let P : List Insertion → Type 0 = λ l. IsIn l k in subst P e i)) [ inl a ↦ inr a | inr b ↦ elim b [ inl x ↦ inl x | inr bad ↦ absurd bad ] ]),
+          (λ (i : IsIn (due ∷ dues) k). let P : List Insertion → Type 0 = λ l. IsIn l k in subst P (sym e) (elim i [ inl x ↦ IsIn-right dues (due ∷ []) k (inl x) | inr a ↦ IsIn-left dues (due ∷ []) k a ])),
         )
 
     -- any item is taken
-    pub holds_taken : (dues : List Due) (old rest : List Item) (item : Item) → ((k : Item) → IsIn old k ↔ IsIn (item ∷ rest) k) → Holds slots slot labels recorded dues old → Holds slots slot labels recorded dues (item ∷ rest)
+    pub holds_taken : (dues : List Insertion) (old rest : List Pending) (item : Pending) → ((k : Pending) → IsIn old k ↔ IsIn (item ∷ rest) k) → Holds slots slot labels recorded dues old → Holds slots slot labels recorded dues (item ∷ rest)
     holds_taken dues old rest item moved was =
-        whole.reordered (stock slots) slot (IsIn (facts_of labels.nodes.items)) (KeptIn labels) (RecordedIn recorded) (DueIn dues) (WaitsIn old) was (DueIn dues) (WaitsIn (item ∷ rest))
+        whole.reordered (stock slots) slot (IsIn (facts_of labels.list.items)) (KeptIn labels) (RecordedIn recorded) (DueIn dues) (WaitsIn old) was (DueIn dues) (WaitsIn (item ∷ rest))
         (same_dues dues dues (same dues)) (same_items old (item ∷ rest) moved)
 
     -- nothing is due and nothing waits
     pub holds_ended : Holds slots slot labels recorded [] [] → IsSettled (stock slots) (λ f. KeptIn labels (Some f)) (KeptIn labels None)
-    holds_ended was = whole.ended (stock slots) slot (IsIn (facts_of labels.nodes.items)) (KeptIn labels) (RecordedIn recorded) (DueIn []) (WaitsIn []) was (λ t E k. k.1) (λ i g m w. w.1)
+    holds_ended was = whole.ended (stock slots) slot (IsIn (facts_of labels.list.items)) (KeptIn labels) (RecordedIn recorded) (DueIn []) (WaitsIn []) was (λ t E k. k.1) (λ i g m w. w.1)
 
-pub taken_item : (xs : List Item) (i : ℕ) (x : Item) → slice_get xs i ≡ Some x → (k : Item) → IsIn xs k ↔ IsIn (x ∷ remove xs i) k
+pub taken_item : (xs : List Pending) (i : ℕ) (x : Pending) → slice_get xs i ≡ Some x → (k : Pending) → IsIn xs k ↔ IsIn (x ∷ remove xs i) k
 taken_item xs i x at k = (to, from)
   where
     parts : xs ≡ take i xs ++ (x ∷ drop (suc i) xs)
@@ -218,23 +219,26 @@ taken_item xs i x at k = (to, from)
         sym (take-append-drop i xs) ∙ ap (λ l. take i xs ++ l) (drop-cons xs i x low ∙ ap (λ y. y ∷ drop (suc i) xs) is)
 
     to : IsIn xs k → IsIn (x ∷ remove xs i) k
-    to h = elim (in_either (take i xs) (x ∷ drop (suc i) xs) k (let P : List Item → Type 0 = λ l. IsIn l k in subst P parts h)) [
-      | inl a ↦ inr (in_front (take i xs) (drop (suc i) xs) k a)
-      | inr b ↦ elim b [ inl e ↦ inl e | inr r ↦ inr (in_back (take i xs) (drop (suc i) xs) k r) ]
+    to h = elim (IsIn-append (take i xs) (x ∷ drop (suc i) xs) k (let P : List Pending → Type 0 = λ l. IsIn l k in subst P parts h)) [
+      | inl a ↦ inr (IsIn-left (take i xs) (drop (suc i) xs) k a)
+      | inr b ↦ elim b [ inl e ↦ inl e | inr r ↦ inr (IsIn-right (take i xs) (drop (suc i) xs) k r) ]
     ]
 
     from : IsIn (x ∷ remove xs i) k → IsIn xs k
-    from h = let P : List Item → Type 0 = λ l. IsIn l k in subst P (sym parts) (elim h [
-      | inl e ↦ in_back (take i xs) (x ∷ drop (suc i) xs) k (inl e)
-      | inr r ↦ elim (in_either (take i xs) (drop (suc i) xs) k r) [ inl a ↦ in_front (take i xs) (x ∷ drop (suc i) xs) k a | inr b ↦ in_back (take i xs) (x ∷ drop (suc i) xs) k (inr b) ]
+    from h = let P : List Pending → Type 0 = λ l. IsIn l k in subst P (sym parts) (elim h [
+      | inl e ↦ IsIn-right (take i xs) (x ∷ drop (suc i) xs) k (inl e)
+      | inr r ↦ elim (IsIn-append (take i xs) (drop (suc i) xs) k r) [ inl a ↦ IsIn-left (take i xs) (x ∷ drop (suc i) xs) k a | inr b ↦ IsIn-right (take i xs) (x ∷ drop (suc i) xs) k (inr b) ]
     ])
 
-pub done : (slots : List (Option Assumption)) (entry w : Work) → Propagates slots w → w.due.items ≡ [] → w.agenda ≡ [] → AgreesWith entry w → IsDone slots entry w
-done slots entry w was none_due nothing_waits agrees = record {
-  settled = holds_ended slots w.slot w.labels w.recorded.items (rw (← none_due, ← nothing_waits) was);
-  recorded = was.are;
-  lives = was.lives;
+pub at_rest :
+    (slots : List (Option Assumption)) (w : Update) → Propagates slots w → w.due.items ≡ [] → w.agenda ≡ [] → AreDistinct (facts_of w.nodes.list.items) → IsAtRest (stock slots) w
+at_rest slots w was none_due nothing_waits once = record {
+  up_to_date = record {
+    settled = holds_ended slots w.slot w.nodes w.recorded.items (rw (← none_due, ← nothing_waits) was);
+    are = was.are;
+    were_met = was.were_met;
+    once = once;
+  };
   none_due = none_due;
   nothing_waits = nothing_waits;
-  agrees = agrees;
 }

@@ -2,7 +2,7 @@
 use Rattle.std.proofs.Common.{◌≡◌, ℕ, ◌⊎◌, inl, inr, subst, ◌↔◌, Some, None, refl}
 use Rattle.circuit_model.specs.declared.model.Fact.{Fact}
 use Rattle.environment_sets.specs.Sets.{Set, ◌⊆◌}
-use Rattle.antichains.specs.Families.{Adds, Drops}
+use Rattle.environment_sets.specs.Families.{Adds, Drops}
 use Rattle.propagation.specs.Propagating.{Target, Family, IsPut}
 
 abbrev no_fact : Target

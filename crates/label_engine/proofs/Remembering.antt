@@ -1,28 +1,24 @@
 -- One assumption more at a free slot, and the slot freed again.
-use Rattle.std.proofs.Common.{◌≡◌, ◌≢◌, ℕ, zero, suc, ◌<◌, true, false, ◌==◌, cond, refl, sym, ap, subst, ◌∙◌, List, [], ◌∷◌, length, set, Option, Some, None, IsSome, arith}
+use Rattle.std.proofs.Common.{◌≡◌, ◌≢◌, ◌↔◌, ℕ, zero, suc, ◌<◌, true, false, ◌==◌, cond, refl, sym, ap, subst, ◌∙◌, List, [], ◌∷◌, length, set, Option, Some, None, IsSome, arith}
 use Rattle.std.proofs.lemmas.Bool.Decides.{nat_tests}
 use mathlib.Core.Path.{fun_ext}
 use Rattle.circuit_model.specs.declared.model.Assumption.{Assumption}
 use Rattle.circuit_model.specs.Stock.{Stock}
-use Rattle.circuit_model.specs.Settled.{IsSettled, AreExact}
-use Rattle.circuit_model.proofs.Settled as settled_is
+use Rattle.circuit_model.specs.declared.model.Fact.{Fact}
 use Rattle.environment_sets.specs.declared.environment.TheConstants.{SLOTS}
+use Rattle.environment_sets.specs.declared.environment.Env.{Env}
+use Rattle.environment_sets.specs.Sets.{Set}
 use Rattle.environment_sets.specs.Members.{HasMember}
-use Rattle.environment_sets.specs.Lists.{IsIn}
-use Rattle.propagation.specs.Propagating.{AreRecorded}
-use Rattle.label_engine.specs.declared.work.Work.{Work}
-use Rattle.label_engine.specs.Engine.{Seen, label_at, IsKept, Remembers, IsAsBefore}
-use Rattle.label_engine.specs.Labels.{facts_of, KeptIn}
-use Rattle.label_engine.specs.Work.{before, IsExactBefore, IsTakenBack}
-use Rattle.inference_search.specs.Slots.{stock}
-use Rattle.inference_search.specs.Inferences.{RecordedIn}
+use Rattle.label_engine.specs.declared.update.Update.{Update}
+use Rattle.label_engine.specs.Engine.{Seen, label_of, label_at, kept_of, Remembers, IsAsBefore}
+use Rattle.label_engine.specs.Nodes.{label_in}
+use Rattle.label_engine.proofs.Kept.{label_of_nodes}
+use Rattle.label_engine.proofs.Asked.{IsExact, seen, is_exact}
+use Rattle.label_engine.specs.Update.{before, AreUpToDate, IsAtRest, IsTakenBack}
+use Rattle.assumption_slots.specs.Slots.{stock}
 
--- what contracts see
-abbrev seen : List (Option Assumption) → Work → Seen
-seen slots w = record { slots = slots; nodes = w.labels.nodes.items; nogoods = w.labels.nogoods }
-
-pub kept_exact : (slots : List (Option Assumption)) (w : Work) → IsKept slots w → AreExact (stock slots) (label_at (seen slots w)) (HasMember w.labels.nogoods)
-kept_exact slots w k = settled_is.exact (stock slots) (λ f. KeptIn w.labels (Some f)) (KeptIn w.labels None) k.remembering.settled
+pub kept_exact : (slots : List (Option Assumption)) (w : Update) → IsAtRest (stock slots) w → IsExact (seen slots w.nodes)
+kept_exact slots w k = is_exact slots w.nodes w.recorded.items k.up_to_date (seen slots w.nodes) refl
 
 abbrev Slots : Type 0
 Slots = List (Option Assumption)
@@ -66,41 +62,33 @@ module _ (slots : Slots) (slot : ℕ) (what : Assumption) (free : stock slots sl
   remembers_now below low now e = rw e (record { below = below; free = free; there = set_here slots slot (Some what) low; others = λ k ne. set_elsewhere slots slot k (Some what) ne })
 
   -- the work begins from what is kept
-  module _ (old : Work) (kept : IsKept slots old) where
-    abbrev Begun : Work
-    Begun = record { slot = slot; labels = old.labels; recorded = old.recorded; due = old.due; agenda = old.agenda }
+  module _ (old : Update) (kept : IsAtRest (stock slots) old) where
+    abbrev Begun : Update
+    Begun = record { slot = slot; nodes = old.nodes; recorded = old.recorded; due = old.due; agenda = old.agenda }
 
-    pub begun_exact : (now : Slots) → now ≡ Now → IsExactBefore now Begun
-    begun_exact now e = rw e (record {
-      settled = (let P : Stock ℕ → Type 0 = λ S. IsSettled S (λ f. KeptIn old.labels (Some f)) (KeptIn old.labels None) in subst P (sym (before_is slots slot (Some what) free)) kept.remembering.settled);
-      are = (let P : Stock ℕ → Type 0 = λ S. AreRecorded S (IsIn (facts_of old.labels.nodes.items)) (RecordedIn old.recorded.items) in subst P (sym (before_is slots slot (Some what) free)) kept.remembering.are);
-      lives = kept.remembering.lives;
-      once = kept.remembering.once;
-      none_due = kept.none_due;
-      nothing_waits = kept.nothing_waits;
-    })
+    pub begun : (now : Slots) → now ≡ Now → IsAtRest (before now slot) Begun
+    begun now e =
+        let P : Stock ℕ → Type 0 = λ S. AreUpToDate S old.nodes old.recorded.items in
+        record { up_to_date = subst P (sym (ap (λ l. before l slot) e ∙ before_is slots slot (Some what) free)) kept.up_to_date; none_due = kept.none_due; nothing_waits = kept.nothing_waits }
 
     -- memory ran out: what is kept is kept as it was
-    module _ (new : Work) (now : Slots) (now_is : now ≡ Now) (taken : IsTakenBack now Begun new) (freed : Slots) (freed_is : freed ≡ set now slot None) where
+    module _ (new : Update) (now : Slots) (now_is : now ≡ Now) (taken : IsTakenBack now Begun new) (freed : Slots) (freed_is : freed ≡ set now slot None) where
       pub freed_same : freed ≡ slots
       freed_same = freed_is ∙ (ap (λ l. set l slot None) now_is ∙ set_back slots slot (Some what) free)
 
       stock_same : before now new.slot ≡ stock freed
       stock_same = ap (λ l. before l new.slot) now_is ∙ (ap (before Now) taken.same_slot ∙ (before_is slots slot (Some what) free ∙ sym (ap stock freed_same)))
 
-      pub kept_again : IsKept freed new
-      kept_again = record {
-        remembering = record {
-          settled = (let P : Stock ℕ → Type 0 = λ S. IsSettled S (λ f. KeptIn new.labels (Some f)) (KeptIn new.labels None) in subst P stock_same taken.exact.settled);
-          are = (let P : Stock ℕ → Type 0 = λ S. AreRecorded S (IsIn (facts_of new.labels.nodes.items)) (RecordedIn new.recorded.items) in subst P stock_same taken.exact.are);
-          lives = taken.exact.lives;
-          once = taken.exact.once;
-        };
-        none_due = taken.exact.none_due;
-        nothing_waits = taken.exact.nothing_waits;
-      }
+      pub kept_again : IsAtRest (stock freed) new
+      kept_again = let P : Stock ℕ → Type 0 = λ S. IsAtRest S new in subst P stock_same taken.at_rest
 
-      pub as_before : (before_it : Seen) → seen slots old ≡ before_it → IsAsBefore before_it (seen freed new)
+      same_label : (f : Fact) (E : Set ℕ) → label_at (seen slots old.nodes) f E ↔ label_at (seen freed new.nodes) f E
+      same_label f E =
+          let P : List Env → List Env → Type 0 = λ xs ys. HasMember xs E ↔ HasMember ys E in
+          subst (P (label_of (kept_of old.nodes.list.items) f)) (sym (label_of_nodes new.nodes.list.items taken.at_rest.up_to_date.once f))
+          (subst (λ (xs : List Env). P xs (label_in new.nodes.list.items f)) (sym (label_of_nodes old.nodes.list.items kept.up_to_date.once f)) (taken.same (Some f) E))
+
+      pub as_before : (before_it : Seen) → seen slots old.nodes ≡ before_it → IsAsBefore before_it (seen freed new.nodes)
       as_before before_it e =
-          let P : Seen → Type 0 = λ s. IsAsBefore s (seen freed new) in
-          subst P e (record { slots = freed_same; labels = λ f E. taken.same (Some f) E; nogoods = λ E. taken.same None E })
+          let P : Seen → Type 0 = λ s. IsAsBefore s (seen freed new.nodes) in
+          subst P e (record { slots = freed_same; labels = same_label; nogoods = λ E. taken.same None E })

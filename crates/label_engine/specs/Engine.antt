@@ -1,45 +1,42 @@
 -- The engine, as contracts see it.
-use Rattle.std.specs.Prelude.{◌≡◌, ◌≢◌, ◌↔◌, ℕ, ◌<◌, Option, Some, None, IsSome, List, []}
+use Rattle.std.specs.Prelude.{◌≡◌, ◌≢◌, ◌↔◌, ℕ, ◌<◌, Option, Some, None, IsSome, List, [], ◌∷◌, ◌++◌, map, filter}
 use Rattle.circuit_model.specs.declared.model.Fact.{Fact}
 use Rattle.circuit_model.specs.declared.model.Assumption.{Assumption}
 use Rattle.circuit_model.specs.Stock.{Stock}
-use Rattle.circuit_model.specs.Settled.{IsSettled}
 use Rattle.environment_sets.specs.declared.environment.Env.{Env}
 use Rattle.environment_sets.specs.declared.environment.TheConstants.{SLOTS}
 use Rattle.environment_sets.specs.Sets.{Set}
 use Rattle.environment_sets.specs.Members.{HasMember}
-use Rattle.environment_sets.specs.Lists.{IsIn, AreDistinct}
-use Rattle.propagation.specs.Propagating.{AreRecorded}
-use Rattle.label_engine.specs.declared.labels.Node.{Node}
-use Rattle.label_engine.specs.declared.labels.Labels.{Labels}
-use Rattle.label_engine.specs.declared.work.Work.{Work}
-use Rattle.inference_search.specs.declared.inferred.Inferred.{Inferred}
-use Rattle.label_engine.specs.Labels.{facts_of, label_of, KeptIn}
-use Rattle.inference_search.specs.Slots.{stock}
-use Rattle.inference_search.specs.Inferences.{RecordedIn}
+use Rattle.label_engine.specs.declared.nodes.Node.{Node}
+use Rattle.label_engine.specs.Nodes.{is_same}
 
--- what is remembered at each slot, the facts with their labels, and the nogoods
+-- an environment that is kept in the label of a fact
+pub record Kept : Type 0 where
+  pub fact : Fact
+  pub env : Env
+
+-- what is remembered at each slot, the environments of all labels, each with its fact, in no order that is told, and the nogoods
 pub record Seen : Type 0 where
   pub slots : List (Option Assumption)
-  pub nodes : List Node
+  pub kept : List Kept
   pub nogoods : List Env
 
--- the label that is kept for the fact
+-- the environments that are kept for the fact
+abbrev pub label_of : List Kept → Fact → List Env
+label_of kept f = map (λ k. k.env) (filter (λ k. is_same k.fact f) kept)
+
+-- an environment that is kept for the fact has exactly these slots
 abbrev pub label_at : Seen → Fact → Set ℕ → Type 0
-label_at seen f E = HasMember (label_of seen.nodes f) E
+label_at seen f E = HasMember (label_of seen.kept f) E
 
--- all is settled and recorded, what has an environment was met, and no fact has two nodes
-pub record IsRemembering (slots : List (Option Assumption)) (labels : Labels) (recorded : List Inferred) : Type 0 where
-  pub settled : IsSettled (stock slots) (λ f. KeptIn labels (Some f)) (KeptIn labels None)
-  pub are : AreRecorded (stock slots) (IsIn (facts_of labels.nodes.items)) (RecordedIn recorded)
-  pub lives : (f : Fact) (E : Set ℕ) → KeptIn labels (Some f) E → IsIn (facts_of labels.nodes.items) f
-  pub once : AreDistinct (facts_of labels.nodes.items)
+-- the environments of the node's label, each with its fact
+abbrev pub kept_at : Node → List Kept
+kept_at n = map (λ e. record { fact = n.fact; env = e }) n.label
 
--- nothing is to be put in and nothing waits
-pub record IsKept (slots : List (Option Assumption)) (w : Work) : Type 0 where
-  pub remembering : IsRemembering slots w.labels w.recorded.items
-  pub none_due : w.due.items ≡ []
-  pub nothing_waits : w.agenda ≡ []
+-- the environments of the labels of all nodes, each with its fact
+abbrev pub kept_of : List Node → List Kept
+kept_of [] = []
+kept_of (n ∷ nodes) = kept_at n ++ kept_of nodes
 
 -- the slot was free and now stands for the assumption; every other slot stays as it was
 pub record Remembers (old : Stock ℕ) (slot : ℕ) (what : Assumption) (new : Stock ℕ) : Type 0 where

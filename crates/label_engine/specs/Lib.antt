@@ -1,4 +1,4 @@
-pub mod Labels
-pub mod Work
+pub mod Nodes
+pub mod Update
 pub mod Engine
 pub mod Questions

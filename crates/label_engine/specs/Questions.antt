@@ -1,17 +1,20 @@
 -- What is asked of an engine.
-use Rattle.std.specs.Prelude.{◌≡◌, ℕ, ◌-◌, ◌^◌, ◌<◌, ◌≤◌, ◌==◌, ◌&&◌, Bool, true, IsTrue, nat_lt, min, Option, Some, None, List, length}
+use Rattle.std.specs.Prelude.{◌≡◌, ℕ, ◌-◌, ◌^◌, ◌<◌, ◌≤◌, ◌&&◌, Bool, true, nat_lt, min, Option, Some, None, List, length}
 use Rattle.std.specs.List.{count_by}
 use Rattle.circuit_model.specs.declared.model.Cell.{Cell}
 use Rattle.circuit_model.specs.declared.model.Fact.{Fact}
 use Rattle.circuit_model.specs.Closure.{fact}
 use Rattle.circuit_model.specs.Load.{IsLoad}
+use Rattle.circuit_model.specs.Present.{is_cell}
+use Rattle.environment_sets.specs.Families.{IsCovered}
 use Rattle.circuit_model.specs.Stock.{Stock, IsInLabel}
-use Rattle.environment_sets.specs.declared.environment.Env.{Env}
+use Rattle.environment_sets.specs.declared.environment.TheConstants.{SLOTS}
 use Rattle.environment_sets.specs.Lists.{IsRoster}
-use Rattle.environment_sets.specs.Sets.{Set, ◌⊆◌}
+use Rattle.environment_sets.specs.Sets.{Set, ◌⊆◌, is_within}
 use Rattle.environment_sets.specs.Members.{members, HasMember}
-use Rattle.label_engine.specs.declared.labels.Node.{Node}
-use Rattle.label_engine.specs.Labels.{label_of, covers}
+use Rattle.label_engine.specs.declared.nodes.Node.{Node}
+use Rattle.label_engine.specs.Nodes.{label_in}
+use Rattle.label_engine.specs.Engine.{Kept, label_of}
 
 -- where there is no last number, each is above it
 abbrev pub IsAbove : Option ℕ → ℕ → Type 0
@@ -29,41 +32,43 @@ abbrev pub GivesNextNumber : (ℕ → Type 0) → Option ℕ → Option ℕ → 
 GivesNextNumber P last None = (v : ℕ) → P v → IsAbove last v → ⊥
 GivesNextNumber P last (Some v) = IsNextNumber P last v
 
--- some environment of the label of the cell and the word over the stock
-abbrev pub HasLabel : Stock ℕ → Cell → ℕ → Type 0
-HasLabel S c v = (E : Set ℕ) × IsInLabel S (fact c v) E
+module _ {N : Type 0} where
+  -- the label of the cell and the word over the stock has some environment
+  abbrev pub HasLabel : Stock N → Cell → ℕ → Type 0
+  HasLabel S c v = (E : Set N) × IsInLabel S (fact c v) E
 
+-- whether the number is above the last one, where there is one
 abbrev pub is_above : Option ℕ → ℕ → Bool
 is_above None v = true
 is_above (Some last) v = nat_lt last v
 
--- an environment is kept for the cell and the word that is inside the mask
-abbrev pub HasInside : List Node → Cell → Env → ℕ → Type 0
-HasInside nodes c mask v = IsTrue (covers (label_of nodes (fact c v)) (members mask))
+-- an environment that is kept for the cell and the word is inside the mask
+abbrev pub HasInside : List Kept → Cell → Set ℕ → ℕ → Type 0
+HasInside kept c mask v = IsCovered (HasMember (label_of kept (fact c v))) mask
 
--- the fact is of the cell, with a word above the last one, and an environment that is kept for it is inside the mask
-abbrev pub is_left : List Node → Cell → Env → Option ℕ → Fact → Bool
-is_left nodes c mask last f = (f.cell.net == c.net) && (f.cell.cycle == c.cycle) && is_above last f.value && covers (label_of nodes f) (members mask)
+-- the environment is kept for a word of the cell above the last one, and is inside the mask
+abbrev pub is_left : Cell → Set ℕ → Option ℕ → Kept → Bool
+is_left c mask last k = is_cell k.fact.cell c && is_above last k.fact.value && is_within SLOTS (members k.env) mask
 
--- how many nodes of the cell have a word above the last one, and an environment inside the mask
-abbrev pub values_left : List Node → Cell → Env → Option ℕ → ℕ
-values_left nodes c mask last = count_by (λ n. is_left nodes c mask last n.fact) nodes
+-- how many of the kept environments are of the cell, with a word above the last one, and inside the mask
+abbrev pub values_left : List Kept → Cell → Set ℕ → Option ℕ → ℕ
+values_left kept c mask last = count_by (is_left c mask last) kept
+
+-- the node is of the cell, with a word above the last one, and an environment of its label is inside the mask
+pub record IsLeft (c : Cell) (mask : Set ℕ) (last : Option ℕ) (n : Node) : Type 0 where
+  pub cell : n.fact.cell ≡ c
+  pub above : IsAbove last n.fact.value
+  pub inside : IsCovered (HasMember n.label) mask
 
 -- the lesser of the word and what was found before
 abbrev pub IsLeastOf : Option ℕ → ℕ → ℕ → Type 0
 IsLeastOf None v least = least ≡ v
 IsLeastOf (Some found) v least = least ≡ min found v
 
--- so many sets of the family are inside the mask
-pub record AreInside (Family : Set ℕ → Type 0) (mask : Set ℕ) (n : ℕ) : Type 0 where
-  pub inside : List (Set ℕ)
-  pub exact : IsRoster (λ E. Family E × (E ⊆ mask)) inside
-  pub count : n ≡ length inside
-
--- so many pairs of a fact and an environment that is kept for it are inside the mask
+-- so many pairs of a fact and an environment of its label are inside the mask
 pub record ArePairs (nodes : List Node) (mask : Set ℕ) (n : ℕ) : Type 0 where
   pub pairs : List (Fact × Set ℕ)
-  pub exact : IsRoster (λ p. HasMember (label_of nodes p.0) p.1 × (p.1 ⊆ mask)) pairs
+  pub exact : IsRoster (λ p. HasMember (label_in nodes p.0) p.1 × (p.1 ⊆ mask)) pairs
   pub count : n ≡ length pairs
 
 -- a number as it is shown: the greatest one of 64 bits where it is above that

@@ -5,13 +5,13 @@ ghost use Rattle.environment_sets.specs.declared.environment.TheConstants.{SLOTS
 ghost use Rattle.environment_sets.specs.Members.{HasMember};
 ghost use Rattle.circuit_model.specs.declared.model.Assumption.TheVariants.{Reading};
 ghost use Rattle.circuit_model.specs.Settled.{AreExact};
-ghost use Rattle.inference_search.specs.Slots.{stock};
+ghost use Rattle.assumption_slots.specs.Slots.{stock};
 ghost use Rattle.label_engine.specs.Engine.{label_at, Remembers, AreAllTaken, IsAsBefore};
 
-use crate::labels::{Labels, is_same_fact};
-use crate::work::Work;
+use crate::nodes::{Nodes, is_same_fact};
+use crate::update::Update;
+use assumption_slots::Slots;
 use circuit_model::{Assumption, Fact};
-use inference_search::Slots;
 use nogood_store::Nogoods;
 use propagation_agenda::{Agenda, Picker};
 use std::alloc::{AllocError, Global};
@@ -30,26 +30,29 @@ pub enum Stop {
 }
 
 /// Remembered assumptions by slot, the label of each fact over all of them at once, and their nogoods (de Kleer 1986).
-/// Labels and nogoods are exact whenever no call is running, as `exactness` says.
+/// Nodes and nogoods are exact whenever no call is running, as `exactness` says.
 #[derive(Drop)]
 pub struct Engine {
     pub(crate) alloc: Global,
     pub(crate) slots: Slots,
-    pub(crate) work: Work,
+    pub(crate) update: Update,
 }
 
 impl Model for Engine {
-    ghost use Rattle.label_engine.specs.Engine.{Seen, IsKept};
+    ghost use Rattle.label_engine.specs.Engine.{Seen, kept_of};
+    ghost use Rattle.label_engine.specs.Update.{IsAtRest};
+    ghost use Rattle.assumption_slots.specs.Slots.{stock};
 
     ghost Value = { Seen };
 
-    ghost view = { λ e. record { slots = e.slots; nodes = e.work.labels.nodes.items; nogoods = e.work.labels.nogoods } };
+    ghost view = { λ e. record { slots = e.slots; kept = kept_of e.update.nodes.list.items; nogoods = e.update.nodes.nogoods } };
 
-    ghost invariant = { λ e. IsKept e.slots e.work };
+    ghost invariant = { λ e. IsAtRest (stock e.slots) e.update };
 }
 
 // Whether the slot stands for a reading of the fact.
-fn stands_for(slots: &Slots, slot: u8, fact: &Fact) -> bool
+fn stands_for(slots: &Slots, slot: u16, fact: &Fact) -> bool
+    requires { slot < SLOTS }
     ensures { IsTrue result ↔ (stock slots.now slot ≡ Some (Reading fact.now)) }
 {
     match slots.at(slot) {
@@ -59,34 +62,38 @@ fn stands_for(slots: &Slots, slot: u8, fact: &Fact) -> bool
 }
 
 impl Engine {
-    /// An engine that remembers nothing.
+    /// An engine that remembers nothing. The room for what is remembered is taken here; an error says that there is none.
     pub fn open(alloc: Global) -> Result<Engine, AllocError>
         ensures nothing { IfOk result (λ e. (k : ℕ) → stock e.slots k ≡ None) }
         ensures exact { IfOk result (λ e. AreExact (stock e.slots) (label_at e) (HasMember e.nogoods)) }
     {
         let slots = Slots::open(alloc)?;
-        let labels = Labels {
-            nodes: Vec::new(alloc),
+        let nodes = Nodes {
+            list: Vec::new(alloc),
             nogoods: Nogoods::new(alloc),
         };
-        let work = Work {
+        let update = Update {
             slot: 0,
-            labels,
+            nodes,
             recorded: Vec::new(alloc),
             due: Vec::new(alloc),
             agenda: Agenda::new(alloc),
         };
-        Ok(Engine { alloc, slots, work })
+        Ok(Engine {
+            alloc,
+            slots,
+            update,
+        })
     }
 
-    /// What every engine keeps: its labels are those of the remembered assumptions, and its nogoods theirs.
+    /// For proofs alone: its labels are those of the remembered assumptions, and its nogoods theirs.
     pub fn exactness(&self)
         ensures { AreExact (stock self.now.slots) (label_at self.now) (HasMember self.now.nogoods) }
     {
         let _slots = &self.slots;
     }
 
-    /// Remembers one assumption more, and answers its slot. Labels and nogoods are brought up to date by unions of
+    /// Remembers one assumption more, and answers its slot. Nodes and nogoods are brought up to date by unions of
     /// environments along the recorded inferences, in an order that the picker chooses and that alters no answer.
     pub fn assume<P: Picker>(&mut self, what: Assumption, picker: &mut P) -> Result<u16, Stop>
         ensures ok { IfOk result (λ slot. Remembers (stock self.old.slots) slot what (stock self.new.slots)) }
@@ -98,9 +105,9 @@ impl Engine {
             return Err(Stop::NoSlot);
         };
         self.slots.set(slot, what);
-        self.work.slot = slot;
-        match self.work.assume(self.alloc, &self.slots, picker) {
-            Ok(()) => Ok(u16::from(slot)),
+        self.update.slot = slot;
+        match self.update.assume(self.alloc, &self.slots, picker) {
+            Ok(()) => Ok(slot),
             Err(_) => {
                 self.slots.clear(slot);
                 Err(Stop::OutOfMemory)
@@ -108,13 +115,13 @@ impl Engine {
         }
     }
 
-    /// The slot that stands for a reading of the fact, if one does.
+    /// A slot that stands for a reading of the fact, if one does.
     pub fn slot_of(&self, fact: Fact) -> Option<u16>
         ensures slot { MatchOption result ((k : ℕ) → stock self.now.slots k ≡ Some (Reading fact) → ⊥) (λ k. stock self.now.slots k ≡ Some (Reading fact)) }
         ensures below { IfSome result (λ k. k < SLOTS) }
     {
         for slot in 0..self.slots.count() as u16 {
-            if stands_for(&self.slots, slot as u8, &fact) {
+            if stands_for(&self.slots, slot, &fact) {
                 return Some(slot);
             }
         }

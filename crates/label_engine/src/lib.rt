@@ -1,11 +1,9 @@
-// Labels and nogoods over all remembered assumptions, kept exact.
+// Nodes and nogoods over all remembered assumptions, kept exact.
 #![tactic(auto)]
 
 mod engine;
-mod labels;
+mod nodes;
 mod questions;
-#[cfg(test)]
-mod tests;
-mod work;
+mod update;
 
 pub use engine::{Engine, Stop};

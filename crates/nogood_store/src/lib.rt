@@ -3,5 +3,5 @@
 
 mod store;
 
-pub use antichains::{Inserted, OutOfMemory};
+pub use antichains::Inserted;
 pub use store::Nogoods;

@@ -1,55 +1,30 @@
 -- All sets of names, one name more at a time.
-use Rattle.std.proofs.Common.{◌≡◌, ◌⊎◌, inl, inr, ℕ, ◌+◌, ◌<◌, Bool, true, false, ◌||◌, ◌&&◌, ◌==◌, not, nat_lt, IsTrue, IsSome, is_some, List, [], ◌∷◌, ◌++◌, length, take, get_or, Option, Some, None, slice_get, refl, sym, ap, ap₂, subst, ◌∙◌, true≢false, add-one, arith}
+use Rattle.std.proofs.Common.{◌≡◌, ◌⊎◌, inl, inr, ℕ, ◌+◌, ◌<◌, Bool, true, false, ◌||◌, ◌&&◌, not, nat_lt, IsTrue, IsSome, is_some, List, [], ◌∷◌, ◌++◌, length, take, get_or, Option, Some, None, slice_get, refl, sym, ap, subst, ◌∙◌, true≢false, add-one, arith}
 use Rattle.std.proofs.Math.Path.{fun_ext}
 use Rattle.std.proofs.Math.Seq.{take-suc}
 use Rattle.std.proofs.lemmas.List.{map-append}
 use Rattle.std.proofs.lemmas.Option.{slice_get_within}
-use Rattle.std.proofs.lemmas.Bool.{cases_lt}
+use Rattle.std.proofs.lemmas.Bool.{cases_lt, or_left, or_right, or_cases, and_parts}
 use Rattle.std.proofs.lemmas.Bool.Decides.{nat_tests}
 use Rattle.environment_sets.specs.Sets.{Set}
 use Rattle.environment_sets.specs.Lists.{IsIn, AreDistinct, IsRoster}
+use Rattle.environment_sets.proofs.Membership.{same_bool}
 use Rattle.circuit_model.specs.declared.model.Cell.{Cell}
 use Rattle.circuit_model.specs.declared.model.Fact.{Fact}
 use Rattle.circuit_model.specs.declared.model.Assumption.TheVariants.{Reading}
 use Rattle.circuit_model.specs.Closure.{fact}
 use Rattle.circuit_model.specs.Diagnoses.{Place, AtPart, AtCell}
-use Rattle.circuit_model.specs.Present.{Setup, is_cell, reading_in, IsLawful}
+use Rattle.circuit_model.specs.Present.{PresentView, reading_in, IsLawful}
 use Rattle.circuit_model.specs.Stock.{IsEnvironment}
 use Rattle.circuit_model.specs.Whole.{stock}
 use Rattle.present_closure.specs.declared.environment.Environment.{Environment}
 use Rattle.present_closure.specs.Members.{members}
 use Rattle.present_closure.specs.Sets.{IsWith, IsEmpty}
 use Rattle.present_closure.proofs.Environments.{is_some-map, is_some-part}
-use Rattle.present_closure.proofs.Measured.{rising_apart, reading_in_at, reading_at_place}
+use Rattle.circuit_model.proofs.Cells.{same_cell, cell_itself}
+use Rattle.circuit_model.proofs.Readings.{Measured, measured_at, rising_apart, reading_in-at}
 use Rattle.plain_answers.specs.Subsets.{sets, IsWithin, IsPart, IsPartOrCell, is_same, adding, doubling}
 use Rattle.plain_answers.proofs.KeptLists.{same_roster}
-
-same_bool : (a b : Bool) → (IsTrue a → IsTrue b) → (IsTrue b → IsTrue a) → a ≡ b
-same_bool true b to from = sym (to refl)
-same_bool false true to from = from refl
-same_bool false false to from = refl
-
-or_left : (a b : Bool) → IsTrue a → IsTrue (a || b)
-or_left true b h = refl
-or_left false b h = cc
-
-or_right : (a b : Bool) → IsTrue b → IsTrue (a || b)
-or_right true b h = refl
-or_right false b h = h
-
-or_cases : (a b : Bool) → IsTrue (a || b) → IsTrue a ⊎ IsTrue b
-or_cases true b h = inl refl
-or_cases false b h = inr h
-
-and_left : (a b : Bool) → IsTrue (a && b) → IsTrue a
-and_left true b h = refl
-and_left false b h = h
-
-same_cell : (c d : Cell) → is_cell c d ≡ true → c ≡ d
-same_cell c d e =
-    let net : c.net ≡ d.net = grind (arith, nat_tests) in
-    let cycle : c.cycle ≡ d.cycle = grind (arith, nat_tests) in
-    ap₂ (λ (n t : ℕ). let d : Cell = record { net = n; cycle = t } in d) net cycle
 
 same_place : (k n : Place) → IsTrue (is_same k n) → k ≡ n
 same_place (AtPart k) (AtPart n) h = let e : k ≡ n = grind (arith, nat_tests) in ap AtPart e
@@ -59,7 +34,7 @@ same_place (AtCell c) (AtCell d) h = ap AtCell (same_cell c d h)
 
 is_same-refl : (n : Place) → IsTrue (is_same n n)
 is_same-refl (AtPart n) = grind (arith, nat_tests)
-is_same-refl (AtCell c) = let net : (c.net == c.net) ≡ true = grind (arith, nat_tests) in let cycle : (c.cycle == c.cycle) ≡ true = grind (arith, nat_tests) in rw (net, cycle) refl
+is_same-refl (AtCell c) = cell_itself c
 
 module _ (name : Place) where
   pub with_adding : (E F : Set Place) → IsWith E name F → F ≡ adding name E
@@ -143,7 +118,7 @@ module _ (name : Place) where
     from_within : (E : Set Place) → IsWithin V E → IsIn (doubling name Es) E
     from_within E within = by_name (E name) refl where
       within_without : IsWithin U (λ k. E k && not (is_same k name))
-      within_without k m = elim (only k (within k (and_left (E k) _ m))) [
+      within_without k m = elim (only k (within k ((and_parts (E k) _ m).0))) [
         | inl u ↦ u
         | inr e ↦
             let P : Place → Type 0 = λ k. IsTrue (E k && not (is_same k name)) in
@@ -159,7 +134,7 @@ module _ (name : Place) where
       back has k = same_bool ((E k && not (is_same k name)) || is_same k name) (E k) to (λ m. from (E k) (is_same k name) m) where
         to : IsTrue ((E k && not (is_same k name)) || is_same k name) → IsTrue (E k)
         to m = elim (or_cases (E k && not (is_same k name)) (is_same k name) m) [
-          | inl m ↦ and_left (E k) _ m
+          | inl m ↦ (and_parts (E k) _ m).0
           | inr s ↦ let P : Place → Type 0 = λ k. IsTrue (E k) in subst P (sym (same_place k name s)) has
         ]
 
@@ -215,7 +190,7 @@ parts_doubled n Es all = doubled_roster (AtPart n) (IsPart n) (IsPart (n + 1)) w
   only (AtPart k) h = elim (cases_lt k n) [ inl low ↦ inl low | inr high ↦ let same : k ≡ n = omega arith in inr (ap AtPart same) ]
   only (AtCell c) h = absurd h
 
-module _ (s : Setup) (lawful : IsLawful s) (n : ℕ) (f : Fact) (at : slice_get s.readings n ≡ Some f) where
+module _ (s : PresentView) (lawful : IsLawful s) (n : ℕ) (f : Fact) (at : slice_get s.readings n ≡ Some f) where
   wider_cell : (k : Place) → IsPartOrCell s n k → IsPartOrCell s (n + 1) k
   wider_cell (AtPart k) h = h
   wider_cell (AtCell c) h = let low = h.2 in (h.0, h.1, omega arith, h.3, h.4)
@@ -236,7 +211,7 @@ module _ (s : Setup) (lawful : IsLawful s) (n : ℕ) (f : Fact) (at : slice_get 
     ]
 
 -- components alone
-pub parts_first : (s : Setup) (Es : List (Set Place)) → IsRoster (IsWithin (IsPart (length s.parts))) Es → IsRoster (IsWithin (IsPartOrCell s 0)) Es
+pub parts_first : (s : PresentView) (Es : List (Set Place)) → IsRoster (IsWithin (IsPart (length s.parts))) Es → IsRoster (IsWithin (IsPartOrCell s 0)) Es
 parts_first s Es all = same_roster (IsWithin (IsPart (length s.parts))) (IsWithin (IsPartOrCell s 0)) Es (λ E within k m. to k (within k m)) (λ E within k m. from k (within k m)) all where
   to : (k : Place) → IsPart (length s.parts) k → IsPartOrCell s 0 k
   to (AtPart k) h = h
@@ -247,12 +222,12 @@ parts_first s Es all = same_roster (IsWithin (IsPart (length s.parts))) (IsWithi
   from (AtCell c) h = let low = h.2 in absurd (omega arith)
 
 -- all components and all measured cells are the stock
-pub stock_last : (s : Setup) → IsLawful s → (Es : List (Set Place)) → IsRoster (IsWithin (IsPartOrCell s (length s.readings))) Es → IsRoster (IsEnvironment (stock s)) Es
+pub stock_last : (s : PresentView) → IsLawful s → (Es : List (Set Place)) → IsRoster (IsWithin (IsPartOrCell s (length s.readings))) Es → IsRoster (IsEnvironment (stock s)) Es
 stock_last s lawful Es all = same_roster (IsWithin (IsPartOrCell s (length s.readings))) (IsEnvironment (stock s)) Es (λ E within k m. to k (within k m)) (λ E within k m. from k (within k m)) all where
   to : (k : Place) → IsPartOrCell s (length s.readings) k → IsSome (stock s k)
   to (AtPart k) h = let test : nat_lt k (length s.parts) ≡ true = grind (arith, nat_tests) in is_some-part s k ∙ test
   to (AtCell c) h =
-      let measured : reading_in s.readings c ≡ Some h.1.value = ap (λ (c : Cell). reading_in s.readings c) (sym h.4) ∙ reading_in_at s lawful h.0 h.1 h.3 in
+      let measured : reading_in s.readings c ≡ Some h.1.value = ap (λ (c : Cell). reading_in s.readings c) (sym h.4) ∙ reading_in-at s lawful h.0 h.1 h.3 in
       is_some-map (λ v. Reading (fact c v)) (reading_in s.readings c) ∙ ap is_some measured
 
   from : (k : Place) → IsSome (stock s k) → IsPartOrCell s (length s.readings) k
@@ -261,5 +236,5 @@ stock_last s lawful Es all = same_roster (IsWithin (IsPartOrCell s (length s.rea
     by_reading : (o : Option ℕ) → reading_in s.readings c ≡ o → is_some (reading_in s.readings c) ≡ true → IsPartOrCell s (length s.readings) (AtCell c)
     by_reading None is some = absurd (true≢false (sym some ∙ ap is_some is))
     by_reading (Some v) is some =
-        let r : (k : ℕ) × (f : Fact) × (slice_get s.readings k ≡ Some f) × (f.cell ≡ c) × (f.value ≡ v) = reading_at_place s c v is in
+        let r : Measured s.readings c v = measured_at s.readings c v is in
         (r.0, r.1, slice_get_within s.readings r.0 r.1 r.2, r.2, r.3)

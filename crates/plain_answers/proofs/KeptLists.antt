@@ -5,7 +5,7 @@ use Rattle.environment_sets.specs.Lists.{IsIn, AreDistinct, IsRoster}
 use Rattle.circuit_model.specs.declared.model.Fact.{Fact}
 use Rattle.circuit_model.specs.Stock.{IsEnvironment, IsRefutedBy, IsInLabel, IsNogood}
 use Rattle.circuit_model.specs.Diagnoses.{Place}
-use Rattle.circuit_model.specs.Present.{Setup}
+use Rattle.circuit_model.specs.Present.{PresentView}
 use Rattle.circuit_model.specs.Whole.{stock}
 use Rattle.circuit_model.proofs.Monotony.{IsRefutedBy-more}
 use Rattle.plain_answers.specs.Subsets.{Keeps}
@@ -58,7 +58,7 @@ module _ {X : Type 0} where
   }
 
 -- the least of those that have the fact are its label
-pub label_listed : (s : Setup) (f : Fact) (all having ys : List (Set Place)) → IsRoster (IsEnvironment (stock s)) all → Keeps (HasFact s f) all having → Keeps (IsLeastIn having) having ys → IsRoster (IsInLabel (stock s) f) ys
+pub label_listed : (s : PresentView) (f : Fact) (all having ys : List (Set Place)) → IsRoster (IsEnvironment (stock s)) all → Keeps (HasFact s f) all having → Keeps (IsLeastIn having) having ys → IsRoster (IsInLabel (stock s) f) ys
 label_listed s f all having ys roster has least =
     same_roster (λ E. (IsEnvironment (stock s) E × HasFact s f E) × IsLeastIn having E) (IsInLabel (stock s) f) ys to from (kept_roster (IsLeastIn having) (λ E. IsEnvironment (stock s) E × HasFact s f E) having ys some least)
   where
@@ -82,7 +82,7 @@ label_listed s f all having ys roster has least =
     )
 
 -- the least of those that clash are the nogoods
-pub nogoods_listed : (s : Setup) (all clashing ys : List (Set Place)) → IsRoster (IsEnvironment (stock s)) all → Keeps (IsRefutedBy (stock s)) all clashing → Keeps (IsLeastIn clashing) clashing ys → IsRoster (IsNogood (stock s)) ys
+pub nogoods_listed : (s : PresentView) (all clashing ys : List (Set Place)) → IsRoster (IsEnvironment (stock s)) all → Keeps (IsRefutedBy (stock s)) all clashing → Keeps (IsLeastIn clashing) clashing ys → IsRoster (IsNogood (stock s)) ys
 nogoods_listed s all clashing ys roster clash least =
     same_roster (λ E. (IsEnvironment (stock s) E × IsRefutedBy (stock s) E) × IsLeastIn clashing E) (IsNogood (stock s)) ys to from (kept_roster (IsLeastIn clashing) (λ E. IsEnvironment (stock s) E × IsRefutedBy (stock s) E) clashing ys some least)
   where

@@ -1,9 +1,11 @@
 -- One environment more of a list.
-use Rattle.std.proofs.Common.{◌≡◌, ◌⊎◌, inl, inr, ℕ, zero, suc, ◌+◌, ◌<◌, ◌≤◌, Bool, true, false, List, [], ◌∷◌, ◌++◌, length, take, get_or, Result, Ok, Err, IfOk, refl, sym, ap, subst, ◌∙◌, append_assoc, arith}
+use Rattle.std.proofs.Common.{◌≡◌, inl, inr, ℕ, ◌+◌, ◌<◌, ◌≤◌, Bool, true, false, List, [], ◌∷◌, ◌++◌, length, take, get_or, Result, Ok, Err, IfOk, sym, ap, subst, ◌∙◌, append_assoc, arith}
 use Rattle.std.proofs.lemmas.Grind.{common_steps}
 use Rattle.std.proofs.lemmas.List.{map-append}
+use Rattle.std.proofs.lemmas.Option.{slice_get-get_or}
 use Rattle.environment_sets.specs.Sets.{Set, ◌⊆◌}
 use Rattle.environment_sets.specs.Lists.{IsIn}
+use Rattle.environment_sets.proofs.Membership.{IsIn-append, IsIn-slice_get, map-IsIn}
 use Rattle.circuit_model.specs.Diagnoses.{Place}
 use Rattle.present_closure.specs.declared.environment.Environment.{Environment}
 use Rattle.present_closure.specs.Members.{members}
@@ -55,22 +57,16 @@ module _ (all : List Environment) (i : ℕ) (d : Environment) (inside : i < leng
       left ∙ (sym (doubling_one_more name (sets (take i all)) E) ∙ ap (λ (xs : List (Set Place)). doubling name xs) (sym (sets_taken all i d inside)))
 
   pub least_more : (F : Set Place) → (E ⊆ F → F ⊆ E) → IsLeastIn (sets (take i all)) F → IsLeastIn (sets (take (i + 1) all)) F
-  least_more F here below G inside_of within = elim (in_append (sets (take i all)) E G (subst (λ (xs : List (Set Place)). IsIn xs G) (sets_taken all i d inside) inside_of)) [
+  least_more F here below G inside_of within = elim (IsIn-append (sets (take i all)) (E ∷ []) G (subst (λ (xs : List (Set Place)). IsIn xs G) (sets_taken all i d inside) inside_of)) [
     | inl h ↦ below G h within
-    | inr e ↦ subst (λ (G : Set Place). F ⊆ G) e (here (subst (λ (G : Set Place). G ⊆ F) (sym e) within))
-  ] where
-    in_append : (xs : List (Set Place)) (x y : Set Place) → IsIn (xs ++ x ∷ []) y → IsIn xs y ⊎ (x ≡ y)
-    in_append [] x y (inl e) = inr e
-    in_append [] x y (inr h) = absurd h
-    in_append (z ∷ xs) x y (inl e) = inl (inl e)
-    in_append (z ∷ xs) x y (inr h) = elim (in_append xs x y h) [ inl h ↦ inl (inr h) | inr e ↦ inr e ]
+    | inr last ↦ elim last [
+      | inl e ↦ subst (λ (G : Set Place). F ⊆ G) e (here (subst (λ (G : Set Place). G ⊆ F) (sym e) within))
+      | inr none ↦ absurd none
+    ]
+  ]
 
   pub not_least : (F : Set Place) → E ⊆ F → (F ⊆ E → ⊥) → IsLeastIn (sets all) F → ⊥
-  not_least F within proper least = proper (least E (in_sets all i inside) within) where
-    in_sets : (es : List Environment) (k : ℕ) → k < length es → IsIn (sets es) (members (get_or es k d))
-    in_sets [] k low = absurd (omega arith)
-    in_sets (e ∷ es) zero low = inl refl
-    in_sets (e ∷ es) (suc k) low = inr (in_sets es k (omega arith))
+  not_least F within proper least = proper (least E (map-IsIn members all (get_or all i d) (IsIn-slice_get all i (get_or all i d) (slice_get-get_or all i d inside))) within)
 
 pub taken_all : (all : List Environment) (i : ℕ) → length all ≤ i → take i all ≡ all
 taken_all all i past = grind (arith, common_steps)

@@ -2,10 +2,11 @@
 use Rattle.std.proofs.Common.{◌≡◌, inl, inr, ℕ, ◌+◌, ◌<◌, Bool, true, false, ◌||◌, ◌&&◌, not, nat_lt, IsTrue, is_some, List, [], ◌∷◌, map, length, Option, refl, sym, ap, subst, ◌∙◌, true≢false, arith}
 use Rattle.std.proofs.Math.Path.{fun_ext}
 use Rattle.std.proofs.lemmas.List.{length-map}
-use Rattle.std.proofs.lemmas.Bool.{cases_lt}
+use Rattle.std.proofs.lemmas.Bool.{cases_lt, and_parts, and_from}
 use Rattle.std.proofs.lemmas.Bool.Decides.{nat_tests}
 use Rattle.environment_sets.specs.Sets.{Set, ◌⊆◌, IsBelow, IsMinimal, others}
 use Rattle.environment_sets.specs.Lists.{IsIn, AreDistinct, IsRoster}
+use Rattle.environment_sets.proofs.Membership.{same_bool, map-IsIn, IsIn-map}
 use Rattle.circuit_model.specs.declared.model.Cell.{Cell}
 use Rattle.circuit_model.specs.declared.model.Assumption.{Assumption}
 use Rattle.circuit_model.specs.declared.model.Assumption.TheVariants.{Reading}
@@ -13,7 +14,7 @@ use Rattle.circuit_model.specs.Whole.{stock}
 use Rattle.circuit_model.specs.declared.present.Component.{Component}
 use Rattle.circuit_model.specs.Closure.{fact}
 use Rattle.circuit_model.specs.Diagnoses.{Place, AtPart, AtCell, with_readings, AreRefuted, IsConflict, IsDiagnosis}
-use Rattle.circuit_model.specs.Present.{Setup, reading_in, circuit_of}
+use Rattle.circuit_model.specs.Present.{PresentView, reading_in, circuit_of}
 use Rattle.present_closure.specs.declared.environment.Environment.{Environment}
 use Rattle.present_closure.specs.Members.{members, IsPartsOf, IsWithReadings}
 use Rattle.present_closure.specs.Sets.{IsEmpty, IsWith}
@@ -26,20 +27,12 @@ abbrev places : Set ℕ → Place → Bool
 places C (AtPart i) = C i
 places C (AtCell c) = false
 
-abbrev at_part : Place → ℕ → ℕ
-at_part (AtPart k) d = k
-at_part (AtCell c) d = d
-
-abbrev is_part : Place → Bool
-is_part (AtPart k) = true
-is_part (AtCell c) = false
-
 -- its components alone have the same positions
 pub same_positions : (E F : Set Place) → IsPartsOf E F → positions F ≡ positions E
 same_positions E F alone = fun_ext alone.parts
 
 -- components with all measured cells
-pub all_readings : (s : Setup) (E F : Set Place) → AreParts E → IsWithReadings s E F → F ≡ with_readings (circuit_of s) (positions E)
+pub all_readings : (s : PresentView) (E F : Set Place) → AreParts E → IsWithReadings s E F → F ≡ with_readings (circuit_of s) (positions E)
 all_readings s E F alone with = fun_ext at where
   at : (k : Place) → F k ≡ with_readings (circuit_of s) (positions E) k
   at (AtPart k) = with.parts k
@@ -65,22 +58,12 @@ module _ (n : ℕ) where
   places_within C below (AtPart i) h = below i h
   places_within C below (AtCell c) h = true≢false (sym h)
 
-  in_positions : (Es : List (Set Place)) (E : Set Place) → IsIn Es E → IsIn (map positions Es) (positions E)
-  in_positions [] E h = h
-  in_positions (D ∷ Es) E (inl e) = inl (ap (λ (E : Set Place). positions E) e)
-  in_positions (D ∷ Es) E (inr h) = inr (in_positions Es E h)
-
-  from_positions : (Es : List (Set Place)) (C : Set ℕ) → IsIn (map positions Es) C → (E : Set Place) × IsIn Es E × (positions E ≡ C)
-  from_positions [] C h = absurd h
-  from_positions (D ∷ Es) C (inl e) = (D, inl refl, e)
-  from_positions (D ∷ Es) C (inr h) = let t : (E : Set Place) × IsIn Es E × (positions E ≡ C) = from_positions Es C h in (t.0, inr t.1, t.2)
-
   positions_distinct : (Es : List (Set Place)) → ((E : Set Place) → IsIn Es E → IsWithin (IsPart n) E) → AreDistinct Es → AreDistinct (map positions Es)
   positions_distinct [] each d = tt
   positions_distinct (D ∷ Es) each d = (first, positions_distinct Es (λ E h. each E (inr h)) d.1) where
     first : (C : Set ℕ) → IsIn (map positions Es) C → positions D ≡ C → ⊥
     first C h e =
-        let t : (E : Set Place) × IsIn Es E × (positions E ≡ C) = from_positions Es C h in
+        let t : (E : Set Place) × IsIn Es E × (positions E ≡ C) = IsIn-map positions Es C h in
         let same : positions D ≡ positions t.0 = e ∙ sym t.2 in
         d.0 t.0 t.1 (sym (places_back D (each D (inl refl))) ∙ (ap (λ (C : Set ℕ). places C) same ∙ places_back t.0 (each t.0 (inr t.1))))
 
@@ -89,10 +72,10 @@ module _ (n : ℕ) where
     distinct = positions_distinct Es (λ E h. ((all.exact E).0 h).0) all.distinct;
     exact = λ C. (
       λ h.
-          let t : (E : Set Place) × IsIn Es E × (positions E ≡ C) = from_positions Es C h in
+          let t : (E : Set Place) × IsIn Es E × (positions E ≡ C) = IsIn-map positions Es C h in
           let is = (all.exact t.0).0 t.1 in
           subst (λ (C : Set ℕ). IsBelow n C × Q C) t.2 (λ i m. is.0 (AtPart i) m, is.1),
-      λ h. in_positions Es (places C) ((all.exact (places C)).1 (places_within C h.0, h.1)),
+      λ h. map-IsIn positions Es (places C) ((all.exact (places C)).1 (places_within C h.0, h.1)),
     );
   }
 
@@ -118,10 +101,10 @@ module _ (n : ℕ) where
         smallest F inside within (AtPart i) m = h.1.least (positions F) (λ i m. within (AtPart i) m) ((some.exact F).0 inside).1 i m
         smallest F inside within (AtCell c) m = absurd (h.0 (AtCell c) m)
 
-count_parts : (s : Setup) → length s.parts ≡ length (circuit_of s).parts
+count_parts : (s : PresentView) → length s.parts ≡ length (circuit_of s).parts
 count_parts s = sym (length-map s.parts (λ (c : Component). c.part))
 
-module _ (s : Setup) (all kept ys : List (Set Place)) (roster : IsRoster (IsWithin (IsPart (length s.parts))) all) where
+module _ (s : PresentView) (all kept ys : List (Set Place)) (roster : IsRoster (IsWithin (IsPart (length s.parts))) all) where
   counted : IsRoster (IsWithin (IsPart (length (circuit_of s).parts))) all
   counted = subst (λ (n : ℕ). IsRoster (IsWithin (IsPart n)) all) (count_parts s) roster
 
@@ -154,15 +137,6 @@ pub record AreOthersBelow (n : ℕ) (E F : Set Place) : Type 0 where
   pub cells : AreParts F
 
 module _ (n : ℕ) (E : Set Place) where
-  same_bool : (a b : Bool) → (IsTrue a → IsTrue b) → (IsTrue b → IsTrue a) → a ≡ b
-  same_bool true b to from = sym (to refl)
-  same_bool false true to from = from refl
-  same_bool false false to from = refl
-
-  both : (a b : Bool) → IsTrue (a && b) → IsTrue a × IsTrue b
-  both true b h = (refl, h)
-  both false b h = absurd (true≢false (sym h))
-
   test_below : (k n : ℕ) → IsTrue (nat_lt k n) → k < n
   test_below k n h = grind (arith, nat_tests)
 
@@ -171,58 +145,50 @@ module _ (n : ℕ) (E : Set Place) where
 
   pub others_more : (F G : Set Place) → IsTrue (not (E (AtPart n))) → IsWith F (AtPart n) G → AreOthersBelow n E F → AreOthersBelow (n + 1) E G
   others_more F G without with below = record { parts = λ k. same_bool _ _ (to k) (from k); cells = cells } where
-    pair : (a b : Bool) → IsTrue a → IsTrue b → IsTrue (a && b)
-    pair true b h k = k
-    pair false b h k = absurd (true≢false (sym h))
-
     to : (k : ℕ) → IsTrue (G (AtPart k)) → IsTrue (nat_lt k (n + 1) && not (E (AtPart k)))
     to k h = elim (with.only (AtPart k) h) [
       | inl m ↦
-          let old : IsTrue (nat_lt k n) × IsTrue (not (E (AtPart k))) = both (nat_lt k n) (not (E (AtPart k))) (sym (below.parts k) ∙ m) in
+          let old : IsTrue (nat_lt k n) × IsTrue (not (E (AtPart k))) = and_parts (nat_lt k n) (not (E (AtPart k))) (sym (below.parts k) ∙ m) in
           let low = test_below k n old.0 in
-          pair _ _ (below_test k (n + 1) (omega arith)) old.1
+          and_from _ _ (below_test k (n + 1) (omega arith)) old.1
       | inr e ↦
-          let same : k ≡ n = ap (λ (p : Place). at_part p k) e in
-          pair _ _ (below_test k (n + 1) (omega arith)) (subst (λ (k : ℕ). IsTrue (not (E (AtPart k)))) (sym same) without)
+          let same : k ≡ n = cc in
+          and_from _ _ (below_test k (n + 1) (omega arith)) (subst (λ (k : ℕ). IsTrue (not (E (AtPart k)))) (sym same) without)
     ]
 
     from : (k : ℕ) → IsTrue (nat_lt k (n + 1) && not (E (AtPart k))) → IsTrue (G (AtPart k))
     from k h =
-        let new : IsTrue (nat_lt k (n + 1)) × IsTrue (not (E (AtPart k))) = both (nat_lt k (n + 1)) (not (E (AtPart k))) h in
+        let new : IsTrue (nat_lt k (n + 1)) × IsTrue (not (E (AtPart k))) = and_parts (nat_lt k (n + 1)) (not (E (AtPart k))) h in
         let low = test_below k (n + 1) new.0 in
         elim (cases_lt k n) [
-          | inl inside ↦ with.more (AtPart k) (below.parts k ∙ pair _ _ (below_test k n inside) new.1)
+          | inl inside ↦ with.more (AtPart k) (below.parts k ∙ and_from _ _ (below_test k n inside) new.1)
           | inr past ↦ let same : k ≡ n = omega arith in subst (λ (k : ℕ). IsTrue (G (AtPart k))) (sym same) with.has
         ]
 
     cells : (c : Cell) → G (AtCell c) ≡ false
     cells c = same_bool _ _ (λ h. elim (with.only (AtCell c) h) [ inl m ↦ absurd (true≢false (sym m ∙ below.cells c)) | inr e ↦ absurd (apart c n e) ]) (λ h. absurd (true≢false (sym h))) where
       apart : (c : Cell) (n : ℕ) → AtCell c ≡ AtPart n → ⊥
-      apart c n e = true≢false (sym (ap is_part e))
+      apart c n e = cc
 
   pub others_same : (F : Set Place) → not (E (AtPart n)) ≡ false → AreOthersBelow n E F → AreOthersBelow (n + 1) E F
   others_same F has below = record { parts = λ k. below.parts k ∙ same_bool _ _ (to k) (from k); cells = below.cells } where
-    pair : (a b : Bool) → IsTrue a → IsTrue b → IsTrue (a && b)
-    pair true b h k = k
-    pair false b h k = absurd (true≢false (sym h))
-
     to : (k : ℕ) → IsTrue (nat_lt k n && not (E (AtPart k))) → IsTrue (nat_lt k (n + 1) && not (E (AtPart k)))
     to k h =
-        let old : IsTrue (nat_lt k n) × IsTrue (not (E (AtPart k))) = both (nat_lt k n) (not (E (AtPart k))) h in
+        let old : IsTrue (nat_lt k n) × IsTrue (not (E (AtPart k))) = and_parts (nat_lt k n) (not (E (AtPart k))) h in
         let low = test_below k n old.0 in
-        pair _ _ (below_test k (n + 1) (omega arith)) old.1
+        and_from _ _ (below_test k (n + 1) (omega arith)) old.1
 
     from : (k : ℕ) → IsTrue (nat_lt k (n + 1) && not (E (AtPart k))) → IsTrue (nat_lt k n && not (E (AtPart k)))
     from k h =
-        let new : IsTrue (nat_lt k (n + 1)) × IsTrue (not (E (AtPart k))) = both (nat_lt k (n + 1)) (not (E (AtPart k))) h in
+        let new : IsTrue (nat_lt k (n + 1)) × IsTrue (not (E (AtPart k))) = and_parts (nat_lt k (n + 1)) (not (E (AtPart k))) h in
         let low = test_below k (n + 1) new.0 in
         elim (cases_lt k n) [
-          | inl inside ↦ pair _ _ (below_test k n inside) new.1
+          | inl inside ↦ and_from _ _ (below_test k n inside) new.1
           | inr past ↦ let same : k ≡ n = omega arith in absurd (true≢false (sym (subst (λ (k : ℕ). IsTrue (not (E (AtPart k)))) same new.1) ∙ has))
         ]
 
 -- the other components clash, or the environment repairs the circuit
-pub repaired_or_not : (s : Setup) (E F : Set Place) (b : Bool) → AreOthers (length s.parts) E F → IsDecided b (AreRefuted (circuit_of s) (positions F)) → IsDecided (not b) (IsRepaired s (positions E))
+pub repaired_or_not : (s : PresentView) (E F : Set Place) (b : Bool) → AreOthers (length s.parts) E F → IsDecided b (AreRefuted (circuit_of s) (positions F)) → IsDecided (not b) (IsRepaired s (positions E))
 repaired_or_not s E F b are decided = by_answer b (subst (λ (C : Set ℕ). IsDecided b (AreRefuted (circuit_of s) C)) same decided) where
   same : positions F ≡ others (length (circuit_of s).parts) (positions E)
   same = fun_ext are.parts ∙ ap (λ (n : ℕ). others n (positions E)) (count_parts s)
@@ -234,8 +200,8 @@ repaired_or_not s E F b are decided = by_answer b (subst (λ (C : Set ℕ). IsDe
 -- no components yet
 pub others_none : (E F : Set Place) → IsEmpty F → AreOthersBelow 0 E F
 others_none E F empty = record {
-  parts = λ k. same_bool 0 E (F (AtPart k)) (nat_lt k 0 && not (E (AtPart k))) (λ h. absurd (empty (AtPart k) h)) (λ h. let low = test_below 0 E k 0 (both 0 E (nat_lt k 0) (not (E (AtPart k))) h).0 in absurd (omega arith));
-  cells = λ c. same_bool 0 E (F (AtCell c)) false (λ h. absurd (empty (AtCell c) h)) (λ h. absurd (true≢false (sym h)));
+  parts = λ k. same_bool (F (AtPart k)) (nat_lt k 0 && not (E (AtPart k))) (λ h. absurd (empty (AtPart k) h)) (λ h. let low = test_below 0 E k 0 (and_parts (nat_lt k 0) (not (E (AtPart k))) h).0 in absurd (omega arith));
+  cells = λ c. same_bool (F (AtCell c)) false (λ h. absurd (empty (AtCell c) h)) (λ h. absurd (true≢false (sym h)));
 }
 
 pub others_all : (n : ℕ) (E F : Set Place) → AreOthersBelow n E F → AreOthers n E F

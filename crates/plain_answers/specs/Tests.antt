@@ -6,7 +6,7 @@ use Rattle.circuit_model.specs.declared.model.Cell.{Cell}
 use Rattle.circuit_model.specs.declared.model.Fact.{Fact}
 use Rattle.circuit_model.specs.Stock.{Has, IsRefutedBy}
 use Rattle.circuit_model.specs.Diagnoses.{Place, AtPart, AtCell, AreRefuted}
-use Rattle.circuit_model.specs.Present.{Setup, circuit_of}
+use Rattle.circuit_model.specs.Present.{PresentView, circuit_of}
 use Rattle.circuit_model.specs.Whole.{stock}
 use Rattle.present_closure.specs.declared.environment.Environment.{Environment}
 use Rattle.present_closure.specs.Members.{members}
@@ -17,11 +17,12 @@ use Rattle.plain_answers.specs.declared.keeping.Test.TheVariants as test
 abbrev pub IsDecided : Bool → Type 0 → Type 0
 IsDecided b P = MatchBool b P (P → ⊥)
 
+-- the positions of its components
 abbrev pub positions : Set Place → Set ℕ
 positions E = λ i. E (AtPart i)
 
 -- without these components the measurements are consistent
-abbrev pub IsRepaired : Setup → Set ℕ → Type 0
+abbrev pub IsRepaired : PresentView → Set ℕ → Type 0
 IsRepaired s D = AreRefuted (circuit_of s) (others (length (circuit_of s).parts) D) → ⊥
 
 -- no measured cells
@@ -34,11 +35,12 @@ pub record AreOthers (n : ℕ) (E F : Set Place) : Type 0 where
   pub cells : AreParts F
 
 -- it is consistent and the fact follows
-pub record HasFact (s : Setup) (f : Fact) (E : Set Place) : Type 0 where
+pub record HasFact (s : PresentView) (f : Fact) (E : Set Place) : Type 0 where
   pub consistent : IsRefutedBy (stock s) E → ⊥
   pub follows : Has (stock s) f E
 
-abbrev pub Passes : Setup → Test → Set Place → Type 0
+-- what the test asks holds of the set
+abbrev pub Passes : PresentView → Test → Set Place → Type 0
 Passes s (test.Has fact) E = HasFact s fact E
 Passes s test.Clashes E = IsRefutedBy (stock s) E
 Passes s test.Refuted E = AreRefuted (circuit_of s) (positions E)
@@ -48,5 +50,6 @@ Passes s test.Repaired E = IsRepaired s (positions E)
 abbrev pub IsLeastIn : List (Set Place) → Set Place → Type 0
 IsLeastIn Es E = (F : Set Place) → IsIn Es F → F ⊆ E → E ⊆ F
 
+-- the positions of each environment's components
 abbrev pub position_sets : List Environment → List (Set ℕ)
 position_sets es = map (λ e. positions (members e)) es

@@ -16,7 +16,8 @@ use present_closure::Environment;
 use std::alloc::{AllocError, Global};
 
 /// The label of a fact in a present (de Kleer 1986): all of its environments are tried, in time that is
-/// exponential in the number of components and measurements.
+/// exponential in the number of components and measurements. Each environment is listed once, in no order. Where memory
+/// is wanting, nothing is left behind, here and below.
 pub fn label(alloc: Global, present: &Present, fact: Fact) -> Result<Vec<Environment>, AllocError>
     ensures { IfOk result (λ es. IsRoster (IsInLabel (stock present.now) fact) (sets es.items)) }
 {

@@ -19,7 +19,8 @@ pub enum Named {
     Cell(Cell),
 }
 
-/// All environments of a present: sets of components and measured cells, two to the power of their number.
+/// All environments of a present: sets of components and measured cells, two to the power of their number. Where memory
+/// is wanting, nothing is left behind.
 pub fn environments(alloc: Global, present: &Present) -> Result<Vec<Environment>, AllocError>
     ensures { IfOk result (λ es. IsRoster (IsEnvironment (stock present.now)) (sets es.items)) }
 {

@@ -2,7 +2,8 @@
 ghost use Rattle.std.specs.Prelude.{◌≡◌, ◌<◌, length, map, None, IsTrue};
 ghost use Rattle.std.specs.List.{All};
 ghost use Rattle.circuit_model.specs.Kinds.{RepeatsLast, are_widths, fits_value};
-ghost use Rattle.circuit_model.specs.Present.{MOST_PARTS, width_of, named_in};
+ghost use Rattle.circuit_model.specs.Present.{width_of, named_in};
+ghost use Rattle.circuit_model.specs.declared.limits.TheConstants.{MOST_PARTS};
 
 use crate::{conflicts, diagnoses, label, nogoods};
 use circuit_model::{

@@ -1,38 +1,13 @@
 -- What words at some ports of an instance say.
-use Rattle.std.proofs.Common.{◌≡◌, ℕ, zero, suc, ◌<◌, ◌^◌, inr, Bool, true, false, IsTrue, ◌&&◌, nat_lt, if◌then◌else◌, List, [], ◌∷◌, length, Option, Some, None, slice_get, slice_index_or, true≢false, refl, sym, ◌∙◌}
+use Rattle.std.proofs.Common.{◌≡◌, ℕ, zero, suc, ◌<◌, ◌^◌, inr, Bool, true, false, IsTrue, ◌&&◌, nat_lt, if◌then◌else◌, List, Option, Some, None, slice_get, slice_index_or, true≢false, refl, sym, ◌∙◌}
 use Rattle.std.specs.Option.{option_and_then}
 use Rattle.circuit_model.specs.declared.model.Cell.{Cell}
 use Rattle.circuit_model.specs.declared.model.Instance.{Instance}
-use Rattle.circuit_model.specs.declared.model.Primitive.{Primitive}
-use Rattle.circuit_model.specs.declared.model.Primitive.TheVariants.{Buf, Not, And, Or, Xor, Nand, Nor, Xnor, Add, Mul, Const}
-use Rattle.circuit_model.specs.Inference.{ports_of, Relates, IsUnknownAt, Forces, IsInference}
-use Rattle.std.proofs.lemmas.Option.{slice_get_within}
+use Rattle.circuit_model.specs.Inference.{ports_of, IsUnknownAt, IsInference}
+use Rattle.circuit_model.proofs.Inferences.{Forces-port}
 use Rattle.present_closure.specs.declared.table.Step.{Step}
 use Rattle.present_closure.specs.declared.table.Step.TheVariants.{Quiet, Grew, Clash}
 use Rattle.present_closure.specs.Closing.{Table, word_at, kept_at, kept, AreKept, IsReady, IsSettledAt, IsRefutedAt, PutsOne, PutsAll, PutsForced, Learns}
-
--- a tuple of a relation has a word for each port
-pub Relates-length : (prim : Primitive) (widths t : List ℕ) → Relates prim widths t → length t ≡ ports_of prim
-Relates-length Buf (w ∷ _) (a ∷ z ∷ []) h = refl
-Relates-length Not (w ∷ _) (a ∷ z ∷ []) h = refl
-Relates-length And (w ∷ _) (a ∷ b ∷ z ∷ []) h = refl
-Relates-length Or (w ∷ _) (a ∷ b ∷ z ∷ []) h = refl
-Relates-length Xor (w ∷ _) (a ∷ b ∷ z ∷ []) h = refl
-Relates-length Nand (w ∷ _) (a ∷ b ∷ z ∷ []) h = refl
-Relates-length Nor (w ∷ _) (a ∷ b ∷ z ∷ []) h = refl
-Relates-length Xnor (w ∷ _) (a ∷ b ∷ z ∷ []) h = refl
-Relates-length Add (w ∷ _) (a ∷ b ∷ z ∷ []) h = refl
-Relates-length Mul (w ∷ _) (a ∷ b ∷ z ∷ []) h = refl
-Relates-length (Const value) (w ∷ _) (z ∷ []) h = refl
-Relates-length _ _ _ h = absurd h
-
--- a word is forced at a port
-pub Forces-port : (prim : Primitive) (widths : List ℕ) (known : List (Option ℕ)) (port v : ℕ) → Forces prim widths known port v → port < ports_of prim
-Forces-port prim widths known port v h =
-    let t : List ℕ = h.some_tuple.0 in
-    let there : slice_get t port ≡ Some v = h.every_tuple t h.some_tuple.1 h.some_tuple.2 in
-    let inside : port < length t = slice_get_within t port v there in
-    rw (← Relates-length prim widths t h.some_tuple.1.relates) inside
 
 -- where words are known at all ports, nothing is left to say
 pub settled_with_no_open_port : (table : Table) (instance : Instance) (known : List (Option ℕ)) → instance.ports ≡ ports_of instance.prim → ((port : ℕ) × (port < instance.ports) × IsUnknownAt known port → ⊥) → IsSettledAt table instance known

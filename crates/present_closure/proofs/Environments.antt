@@ -1,7 +1,7 @@
 -- Environments with the measured cells of a present.
-use Rattle.std.proofs.Common.{◌≡◌, ◌⊎◌, ℕ, zero, suc, ◌+◌, ◌<◌, ◌≤◌, [], ◌∷◌, ◌||◌, nat_lt, Bool, true, false, inl, inr, IsTrue, List, length, map, Option, Some, None, is_some, slice_get, refl, sym, ap, subst, ◌∙◌, true≢false, below_more, arith}
+use Rattle.std.proofs.Common.{◌≡◌, ◌⊎◌, ℕ, zero, suc, ◌+◌, ◌<◌, ◌≤◌, [], ◌∷◌, ◌||◌, nat_lt, true, false, inl, inr, IsTrue, List, length, map, Option, Some, None, is_some, slice_get, refl, sym, ap, subst, ◌∙◌, true≢false, below_more, arith}
 use Rattle.std.specs.Option.{option_map}
-use Rattle.std.proofs.lemmas.Bool.{cases_lt}
+use Rattle.std.proofs.lemmas.Bool.{cases_lt, or_left, or_right, or_cases}
 use Rattle.std.proofs.lemmas.Bool.Decides.{nat_tests}
 use Rattle.std.proofs.lemmas.Option.{slice_get-map, slice_get_within}
 use Rattle.environment_sets.specs.Sets.{Set, ◌⊆◌}
@@ -12,18 +12,19 @@ use Rattle.circuit_model.specs.declared.model.Assumption.TheVariants.{Part, Read
 use Rattle.circuit_model.specs.declared.present.Component.{Component}
 use Rattle.circuit_model.specs.Closure.{fact}
 use Rattle.circuit_model.specs.Diagnoses.{Place, AtPart, AtCell}
-use Rattle.circuit_model.specs.Present.{Setup, reading_in, IsLawful}
+use Rattle.circuit_model.specs.Present.{PresentView, reading_in, IsLawful}
 use Rattle.circuit_model.specs.Whole.{stock}
+use Rattle.circuit_model.proofs.Readings.{Measured, measured_at, reading_in-at}
+use Rattle.environment_sets.proofs.Membership.{same_bool}
 use Rattle.present_closure.specs.Members.{IsWithReadings}
 use Rattle.present_closure.specs.Sets.{IsWith}
-use Rattle.present_closure.proofs.Measured.{reading_in_at, reading_at_place}
 
 pub is_some-map : {X Y : Type 0} (f : X → Y) (o : Option X) → is_some (option_map f o) ≡ is_some o
 is_some-map f None = refl
 is_some-map f (Some x) = refl
 
 -- a component is there exactly below the number of components
-pub is_some-part : (s : Setup) (k : ℕ) → is_some (stock s (AtPart k)) ≡ nat_lt k (length s.parts)
+pub is_some-part : (s : PresentView) (k : ℕ) → is_some (stock s (AtPart k)) ≡ nat_lt k (length s.parts)
 is_some-part s k =
     let part_of : Component → List Instance = λ c. c.part in
     is_some-map Part (slice_get (map part_of s.parts) k) ∙ (ap is_some (slice_get-map part_of s.parts k) ∙ (is_some-map part_of (slice_get s.parts k) ∙ inside s.parts k))
@@ -39,38 +40,13 @@ is_some-part s k =
           | inr past ↦ let a : nat_lt k (length xs) ≡ false = grind (arith, nat_tests) in let b : nat_lt (suc k) (length (c ∷ xs)) ≡ false = grind (arith, nat_tests) in a ∙ sym b
         ]
 
-same_bool : (a b : Bool) → (IsTrue a → IsTrue b) → (IsTrue b → IsTrue a) → a ≡ b
-same_bool true b to from = sym (to refl)
-same_bool false true to from = from refl
-same_bool false false to from = refl
-
-or_left : (a b : Bool) → IsTrue a → IsTrue (a || b)
-or_left true b h = refl
-or_left false b h = cc
-
-or_right : (a b : Bool) → IsTrue b → IsTrue (a || b)
-or_right true b h = refl
-or_right false b h = h
-
-or_cases : (a b : Bool) → IsTrue (a || b) → IsTrue a ⊎ IsTrue b
-or_cases true b h = inl refl
-or_cases false b h = inr h
-
-abbrev is_part : Place → Bool
-is_part (AtPart k) = true
-is_part (AtCell c) = false
-
-abbrev cell_in : Place → Cell → Cell
-cell_in (AtPart k) d = d
-cell_in (AtCell c) d = c
-
 -- F is E with the cells of the first n measurements
-pub record HasAdded (s : Setup) (E : Set Place) (n : ℕ) (F : Set Place) : Type 0 where
+pub record HasAdded (s : PresentView) (E : Set Place) (n : ℕ) (F : Set Place) : Type 0 where
   pub more : E ⊆ F
   pub has : (k : ℕ) → k < n → (f : Fact) → slice_get s.readings k ≡ Some f → IsTrue (F (AtCell f.cell))
   pub only : (p : Place) → IsTrue (F p) → IsTrue (E p) ⊎ ((k : ℕ) × (f : Fact) × (slice_get s.readings k ≡ Some f) × (p ≡ AtCell f.cell))
 
-module _ (s : Setup) (E : Set Place) where
+module _ (s : PresentView) (E : Set Place) where
   pub added_none : HasAdded s E 0 E
   added_none = record { more = λ k m. m; has = λ k low. absurd (omega arith); only = λ p m. inl m }
 
@@ -84,10 +60,13 @@ module _ (s : Setup) (E : Set Place) where
   -- with all of them
   pub added_all : IsLawful s → (n : ℕ) (F : Set Place) → length s.readings ≤ n → HasAdded s E n F → IsWithReadings s E F
   added_all lawful n F all added = record { parts = parts; cells = cells } where
+    apart : (k : ℕ) (c : Cell) → AtPart k ≡ AtCell c → ⊥
+    apart k c e = cc
+
     parts : (k : ℕ) → F (AtPart k) ≡ E (AtPart k)
     parts k = same_bool _ _ (λ m. elim (added.only (AtPart k) m) [
       | inl old ↦ old
-      | inr r ↦ absurd (true≢false (ap (λ (p : Place). is_part p) r.3))
+      | inr r ↦ absurd (apart k r.1.cell r.3)
     ]) (λ m. added.more (AtPart k) m)
 
     measured_is : (c : Cell) → is_some (stock s (AtCell c)) ≡ is_some (reading_in s.readings c)
@@ -96,7 +75,7 @@ module _ (s : Setup) (E : Set Place) where
     measured_has : (c : Cell) (o : Option ℕ) → reading_in s.readings c ≡ o → IsTrue (is_some o) → IsTrue (F (AtCell c))
     measured_has c None is m = absurd (true≢false (sym m))
     measured_has c (Some v) is m =
-        let r : (k : ℕ) × (f : Fact) × (slice_get s.readings k ≡ Some f) × (f.cell ≡ c) × (f.value ≡ v) = reading_at_place s c v is in
+        let r : Measured s.readings c v = measured_at s.readings c v is in
         let inside : r.0 < length s.readings = slice_get_within s.readings r.0 r.1 r.2 in
         subst (λ (c : Cell). IsTrue (F (AtCell c))) r.3 (added.has r.0 (omega arith) r.1 r.2)
 
@@ -106,8 +85,8 @@ module _ (s : Setup) (E : Set Place) where
       to c m = elim (added.only (AtCell c) m) [
         | inl old ↦ or_left (E (AtCell c)) (is_some (stock s (AtCell c))) old
         | inr r ↦
-            let same : c ≡ r.1.cell = ap (λ (p : Place). cell_in p c) r.3 in
-            let word : reading_in s.readings r.1.cell ≡ Some r.1.value = reading_in_at s lawful r.0 r.1 r.2 in
+            let is = r.3 in let same : c ≡ r.1.cell = cc in
+            let word : reading_in s.readings r.1.cell ≡ Some r.1.value = reading_in-at s lawful r.0 r.1 r.2 in
             or_right (E (AtCell c)) (is_some (stock s (AtCell c))) (measured_is c ∙ ap is_some (ap (λ (c : Cell). reading_in s.readings c) same ∙ word))
       ]
 

@@ -1,20 +1,9 @@
 -- Rows of values, one value at a cell changed.
-use Rattle.std.proofs.Common.{◌≡◌, ◌≢◌, ◌⊎◌, inl, inr, ℕ, ◌<◌, [], List, length, slice_index_or, slice_set, sym, ap, ap₂, subst, ◌∙◌}
+use Rattle.std.proofs.Common.{◌≡◌, ◌≢◌, inl, inr, ℕ, ◌<◌, [], List, length, slice_index_or, slice_set, sym, ap, subst, ◌∙◌}
 use Rattle.std.proofs.lemmas.List.{length-set, get_or-set_same, get_or-set_other}
 use Rattle.std.proofs.lemmas.Bool.{cases_eq}
 use Rattle.circuit_model.specs.declared.model.Cell.{Cell}
-
-pub cell_of : (c d : Cell) → c.net ≡ d.net → c.cycle ≡ d.cycle → c ≡ d
-cell_of c d net cycle = ap₂ (λ (n t : ℕ). let d : Cell = record { net = n; cycle = t } in d) net cycle
-
-pub same_or_other : (c d : Cell) → (c ≡ d) ⊎ (c ≢ d)
-same_or_other c d = elim (cases_eq c.net d.net) [
-  | inl net ↦ elim (cases_eq c.cycle d.cycle) [
-    | inl cycle ↦ inl (cell_of c d net cycle)
-    | inr differ ↦ inr (λ e. differ (ap (λ (c : Cell). c.cycle) e))
-  ]
-  | inr differ ↦ inr (λ e. differ (ap (λ (c : Cell). c.net) e))
-]
+use Rattle.circuit_model.proofs.Cells.{cell_by}
 
 module _ {X : Type 0} (default : X) where
   abbrev pub row_of : List (List X) → ℕ → List X
@@ -39,7 +28,7 @@ module _ {X : Type 0} (default : X) where
     pub value_other : (d : Cell) → d ≢ c → value_in (with_value rows c x) d ≡ value_in rows d
     value_other d differ = elim (cases_eq d.net c.net) [
       | inl same ↦
-          let cycle : d.cycle ≢ c.cycle = λ e. differ (cell_of d c same e) in
+          let cycle : d.cycle ≢ c.cycle = λ e. differ (cell_by d c same e) in
           let at_net : row_of (with_value rows c x) d.net ≡ new_row = ap (λ (n : ℕ). row_of (with_value rows c x) n) same ∙ row_here in
           let other : slice_index_or new_row d.cycle default ≡ slice_index_or (row_of rows c.net) d.cycle default = get_or-set_other (row_of rows c.net) c.cycle d.cycle x default cycle in
           ap (λ (row : List X). slice_index_or row d.cycle default) at_net ∙ (other ∙ ap (λ (n : ℕ). slice_index_or (row_of rows n) d.cycle default) (sym same))

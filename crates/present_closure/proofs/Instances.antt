@@ -1,8 +1,8 @@
 -- The instances of a present.
 use Rattle.std.proofs.Common.{◌≡◌, ℕ, zero, suc, ◌+◌, ◌-◌, ◌<◌, ◌≤◌, ◌⊎◌, inl, inr, List, [], ◌∷◌, length, map, Some, IsTrue, slice_get, refl, sym, ap, subst, ◌∙◌, below_more, arith}
-use Rattle.std.specs.List.{All, Contains}
+use Rattle.std.specs.List.{All}
 use Rattle.std.specs.Option.{option_map}
-use Rattle.std.proofs.lemmas.Option.{slice_get-map, slice_get-get_or, slice_get_within, get_or_from_slice_get}
+use Rattle.std.proofs.lemmas.Option.{slice_get-map, slice_get_within, get_or_from_slice_get}
 use Rattle.circuit_model.specs.declared.model.Cell.{Cell}
 use Rattle.circuit_model.specs.declared.model.Instance.{Instance}
 use Rattle.circuit_model.specs.declared.model.Kind.{Kind}
@@ -10,33 +10,34 @@ use Rattle.circuit_model.specs.declared.model.Kind.TheVariants.{Reg}
 use Rattle.circuit_model.specs.declared.model.Assumption.TheVariants.{Part}
 use Rattle.circuit_model.specs.declared.present.Component.{Component}
 use Rattle.circuit_model.specs.Kinds.{cell_at, primitive_of, RepeatsLast, instance_at, each_cycle, reset_instance, carry_instance, register, instances}
-use Rattle.circuit_model.specs.Lawful as lawful
+use Rattle.circuit_model.specs.Lawful.{IsLawfulInstance}
 use Rattle.environment_sets.specs.Sets.{Set}
+use Rattle.environment_sets.specs.Lists.{IsIn}
 use Rattle.circuit_model.specs.Diagnoses.{Place, AtPart}
-use Rattle.circuit_model.specs.Present.{Setup, width_of, IsLawful, IsLawfulComponent}
+use Rattle.circuit_model.specs.Present.{PresentView, width_of, IsLawful, IsLawfulComponent}
 use Rattle.present_closure.specs.Closing.{IsInstanceAt}
 
 -- one of so many instances is the one of some cycle
-each_cycle_at : (at : ℕ → Instance) (first n : ℕ) (i : Instance) → Contains (each_cycle at first n) i → (k : ℕ) × (first ≤ k) × (k < first + n) × (i ≡ at k)
-each_cycle_at at first zero i (k, inside, is) = absurd (omega arith)
-each_cycle_at at first (suc n) i (zero, inside, is) = (first, omega arith, omega arith, sym is)
-each_cycle_at at first (suc n) i (suc k, inside, is) =
-    let r : (k : ℕ) × (suc first ≤ k) × (k < suc first + n) × (i ≡ at k) = each_cycle_at at (suc first) n i (k, omega arith, is) in
+each_cycle_at : (at : ℕ → Instance) (first n : ℕ) (i : Instance) → IsIn (each_cycle at first n) i → (k : ℕ) × (first ≤ k) × (k < first + n) × (i ≡ at k)
+each_cycle_at at first zero i h = absurd h
+each_cycle_at at first (suc n) i (inl e) = (first, omega arith, omega arith, sym e)
+each_cycle_at at first (suc n) i (inr h) =
+    let r : (k : ℕ) × (suc first ≤ k) × (k < suc first + n) × (i ≡ at k) = each_cycle_at at (suc first) n i h in
     let low = r.1 in
     let high = r.2 in
     (r.0, omega arith, omega arith, r.3)
 
 -- an instance of a register gives its reset value, or carries its word to a later cycle
-register_at : (reset : ℕ) (nets widths : List ℕ) (n : ℕ) (i : Instance) → Contains (register reset nets widths n) i → (i ≡ reset_instance reset nets widths) ⊎ ((k : ℕ) × (1 ≤ k) × (k < n) × (i ≡ carry_instance nets widths k))
-register_at reset nets widths zero i (k, inside, is) = absurd (omega arith)
-register_at reset nets widths (suc n) i (zero, inside, is) = inl (sym is)
-register_at reset nets widths (suc n) i (suc k, inside, is) =
-    let r : (k : ℕ) × (1 ≤ k) × (k < 1 + n) × (i ≡ carry_instance nets widths k) = each_cycle_at (carry_instance nets widths) 1 n i (k, omega arith, is) in
+register_at : (reset : ℕ) (nets widths : List ℕ) (n : ℕ) (i : Instance) → IsIn (register reset nets widths n) i → (i ≡ reset_instance reset nets widths) ⊎ ((k : ℕ) × (1 ≤ k) × (k < n) × (i ≡ carry_instance nets widths k))
+register_at reset nets widths zero i h = absurd h
+register_at reset nets widths (suc n) i (inl e) = inl (sym e)
+register_at reset nets widths (suc n) i (inr h) =
+    let r : (k : ℕ) × (1 ≤ k) × (k < 1 + n) × (i ≡ carry_instance nets widths k) = each_cycle_at (carry_instance nets widths) 1 n i h in
     let high = r.2 in
     inr (r.0, r.1, omega arith, r.3)
 
 -- cells of the present, with the widths of their nets
-record AreCells (s : Setup) (cells : List Cell) (widths : List ℕ) : Type 0 where
+record AreCells (s : PresentView) (cells : List Cell) (widths : List ℕ) : Type 0 where
   three : length cells ≡ 3
   widths_three : length widths ≡ 3
   at_nets : (port : ℕ) (c : Cell) → slice_get cells port ≡ Some c → c.net < length s.nets
@@ -51,7 +52,7 @@ module _ {X Y : Type 0} (a b z : X) (u v w : Y) (Q : X → Y → Type 0) (first 
   each_of_three (suc (suc zero)) x y e k = let at : z ≡ x = cc in let of : w ≡ y = cc in subst (λ (y : Y). Q x y) of (subst (λ (x : X). Q x w) at third)
   each_of_three (suc (suc (suc port))) x y e k = cc
 
-module _ (s : Setup) where
+module _ (s : PresentView) where
   -- a cell of the present, with the width of its net
   record IsCellOf (c : Cell) (w : ℕ) : Type 0 where
     net : c.net < length s.nets
@@ -79,7 +80,7 @@ module _ (s : Setup) where
     abbrev widths : List ℕ
     widths = map (width_of s) nets
 
-    cycle_cells : (kind : Kind) (i : Instance) → Contains (each_cycle (instance_at (primitive_of kind) nets widths) 0 s.cycles) i → AreCells s i.cells i.widths
+    cycle_cells : (kind : Kind) (i : Instance) → IsIn (each_cycle (instance_at (primitive_of kind) nets widths) 0 s.cycles) i → AreCells s i.cells i.widths
     cycle_cells kind i of_part =
         let r : (k : ℕ) × (0 ≤ k) × (k < 0 + s.cycles) × (i ≡ instance_at (primitive_of kind) nets widths k) = each_cycle_at (instance_at (primitive_of kind) nets widths) 0 s.cycles i of_part in
         let high = r.2 in
@@ -87,7 +88,7 @@ module _ (s : Setup) where
         let P : Instance → Type 0 = λ i. AreCells s i.cells i.widths in
         subst P (sym r.3) (three_cells (cell_at r.0 a) (cell_at r.0 b) (cell_at r.0 z) (width_of s a) (width_of s b) (width_of s z) (of_net r.0 a in_a low) (of_net r.0 b in_b low) (of_net r.0 z in_z low))
 
-    register_cells : (reset : ℕ) → 1 ≤ s.cycles → b ≡ z → (i : Instance) → Contains (register reset nets widths s.cycles) i → AreCells s i.cells i.widths
+    register_cells : (reset : ℕ) → 1 ≤ s.cycles → b ≡ z → (i : Instance) → IsIn (register reset nets widths s.cycles) i → AreCells s i.cells i.widths
     register_cells reset some same i of_part = elim (register_at reset nets widths s.cycles i of_part) [
       | inl is ↦
           let q : IsCellOf (cell_at 0 b) (width_of s b) = of_net 0 b in_b (omega arith) in
@@ -103,12 +104,12 @@ module _ (s : Setup) where
       P : Instance → Type 0
       P i = AreCells s i.cells i.widths
 
-    kind_cells : (kind : Kind) → 1 ≤ s.cycles → RepeatsLast kind nets → (i : Instance) → Contains (instances kind nets widths s.cycles) i → AreCells s i.cells i.widths
+    kind_cells : (kind : Kind) → 1 ≤ s.cycles → RepeatsLast kind nets → (i : Instance) → IsIn (instances kind nets widths s.cycles) i → AreCells s i.cells i.widths
     kind_cells (Reg reset) some repeats i of_part = let same : b ≡ z = cc in register_cells reset some same i of_part
     kind_cells kind some repeats i of_part = cycle_cells kind i of_part
 
   -- the cells and the widths of an instance of a component
-  instance_cells : (kind : Kind) (nets : List ℕ) → length nets ≡ 3 → All (λ n. n < length s.nets) nets → 1 ≤ s.cycles → RepeatsLast kind nets → (i : Instance) → Contains (instances kind nets (map (width_of s) nets) s.cycles) i → AreCells s i.cells i.widths
+  instance_cells : (kind : Kind) (nets : List ℕ) → length nets ≡ 3 → All (λ n. n < length s.nets) nets → 1 ≤ s.cycles → RepeatsLast kind nets → (i : Instance) → IsIn (instances kind nets (map (width_of s) nets) s.cycles) i → AreCells s i.cells i.widths
   instance_cells kind (a ∷ b ∷ z ∷ []) three within some repeats i of_part =
       kind_cells a b z (within 0 0 (omega arith)) (within 1 0 (omega arith)) (within 2 0 (omega arith)) kind some repeats i of_part
   instance_cells kind [] three within some repeats i of_part = absurd (omega arith)
@@ -117,7 +118,7 @@ module _ (s : Setup) where
   instance_cells kind (a ∷ b ∷ z ∷ y ∷ rest) three within some repeats i of_part = absurd (omega arith)
 
 -- an instance of a component of the present
-pub instance_at_place : (s : Setup) (E : Set Place) → IsLawful s → (place : ℕ) → IsTrue (E (AtPart place)) → (c : Component) → slice_get s.parts place ≡ Some c → (instance : Instance) → Contains c.part instance → lawful.IsLawful instance → IsInstanceAt s E place instance
+pub instance_at_place : (s : PresentView) (E : Set Place) → IsLawful s → (place : ℕ) → IsTrue (E (AtPart place)) → (c : Component) → slice_get s.parts place ≡ Some c → (instance : Instance) → IsIn c.part instance → IsLawfulInstance instance → IsInstanceAt s E place instance
 instance_at_place s E lawful place chosen c e instance of_part good = record {
   part = c.part;
   chosen = chosen;
@@ -138,19 +139,12 @@ instance_at_place s E lawful place chosen c e instance of_part good = record {
 
   cells : AreCells s instance.cells instance.widths
   cells =
-      let P : List Instance → Type 0 = λ part. Contains part instance in
+      let P : List Instance → Type 0 = λ part. IsIn part instance in
       instance_cells s c.kind c.nets component.three component.nets lawful.some_cycle component.unused instance (subst P component.part of_part)
 
 -- what holds of the component there
 pub at_slice_get : (components : List Component) (place : ℕ) (d c : Component) (P : Component → Type 0) → slice_get components place ≡ Some d → slice_get components place ≡ Some c → P d → P c
 at_slice_get components place d c P here there h = let same : d ≡ c = cc in subst P same h
-
-pub Contains-slice_get : (part : List Instance) (k : ℕ) (i : Instance) → slice_get part k ≡ Some i → Contains part i
-Contains-slice_get part k i e = (k, slice_get_within part k i e, get_or_from_slice_get part k i i e)
-
--- what holds of the instance at each place holds of each instance
-pub each_instance : (part : List Instance) (P : Instance → Type 0) → ((k : ℕ) → k < length part → (i : Instance) → slice_get part k ≡ Some i → P i) → (i : Instance) → Contains part i → P i
-each_instance part P all i (k, inside, is) = all k inside i (slice_get-get_or part k i inside ∙ ap Some is)
 
 -- one more place
 pub each_below_more : (part : List Instance) (n : ℕ) (here : Instance) (P : Instance → Type 0) → slice_get part n ≡ Some here → ((k : ℕ) → k < n → (i : Instance) → slice_get part k ≡ Some i → P i) → P here → (k : ℕ) → k < n + 1 → (i : Instance) → slice_get part k ≡ Some i → P i

@@ -1,8 +1,8 @@
 -- Where nothing is left to put in, the table is the closure of the environment.
 use Rattle.std.proofs.Common.{◌≡◌, IsTrue, ℕ, zero, suc, List, [], ◌∷◌, map, Option, Some, None, slice_get, refl, sym, ap, subst, ◌∙◌}
-use Rattle.std.specs.List.{Contains}
 use Rattle.std.specs.Option.{option_map}
 use Rattle.environment_sets.specs.Sets.{Set}
+use Rattle.environment_sets.specs.Lists as lists
 use Rattle.circuit_model.specs.declared.model.Cell.{Cell}
 use Rattle.circuit_model.specs.declared.model.Fact.{Fact}
 use Rattle.circuit_model.specs.declared.model.Instance.{Instance}
@@ -12,7 +12,7 @@ use Rattle.circuit_model.specs.declared.present.Component.{Component}
 use Rattle.circuit_model.specs.Closure.{fact, AreHeld, AreTwoWords}
 use Rattle.circuit_model.specs.Stock.{IsChosen, Has, IsRefutedBy}
 use Rattle.circuit_model.specs.Diagnoses.{Place, AtPart, AtCell}
-use Rattle.circuit_model.specs.Present.{Setup, reading_in}
+use Rattle.circuit_model.specs.Present.{PresentView, reading_in}
 use Rattle.circuit_model.specs.Whole.{stock}
 use Rattle.circuit_model.proofs.Rounds as rounds
 use Rattle.circuit_model.proofs.Rounds.{Follows-within, Clashes-within}
@@ -36,7 +36,7 @@ part_at [] place part e = cc
 part_at (c ∷ components) zero part e = (c, refl, cc)
 part_at (c ∷ components) (suc place) part e = part_at components place part e
 
-module _ (s : Setup) (E : Set Place) (table : Table) (readings : HasReadings s E table) (settled : IsSettled s E table) where
+module _ (s : PresentView) (E : Set Place) (table : Table) (readings : HasReadings s E table) (settled : IsSettled s E table) where
   abbrev A : Assumption → Type 0
   A = IsChosen (stock s) E
 
@@ -58,10 +58,10 @@ module _ (s : Setup) (E : Set Place) (table : Table) (readings : HasReadings s E
         let r : (reading_in s.readings c ≡ Some f.value) × (c ≡ f.cell) = is_reading (reading_in s.readings c) c f e in
         ap (λ (c : Cell). word_at table c) (sym r.1) ∙ readings c f.value chosen r.0
 
-  settled_at : (part : List Instance) → A (Part part) → (instance : Instance) → Contains part instance → (known : List (Option ℕ)) → AreHeld (IsIn table) instance.cells known → IsSettledAt table instance known
+  settled_at : (part : List Instance) → A (Part part) → (instance : Instance) → lists.IsIn part instance → (known : List (Option ℕ)) → AreHeld (IsIn table) instance.cells known → IsSettledAt table instance known
   settled_at part a instance of_part known held =
       let c : (place : ℕ) × (c : Component) × (slice_get s.parts place ≡ Some c) × (c.part ≡ part) × IsTrue (E (AtPart place)) = component_of part a in
-      let P : List Instance → Type 0 = λ part. Contains part instance in
+      let P : List Instance → Type 0 = λ part. lists.IsIn part instance in
       settled c.0 c.4 c.1 c.2 instance (subst P (sym c.3) of_part) known held
 
   closed : rounds.IsClosed A (IsIn table)

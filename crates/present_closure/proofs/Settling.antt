@@ -1,41 +1,22 @@
 -- The eight choices of ports are all that there are.
-use Rattle.std.proofs.Common.{◌≡◌, ℕ, zero, suc, ◌<◌, Bool, true, false, nat_lt, List, [], ◌∷◌, length, Option, Some, None, is_some, slice_get, slice_index_or, refl, sym, subst, ◌∙◌, arith}
+use Rattle.std.proofs.Common.{◌≡◌, ℕ, ◌<◌, Bool, true, false, nat_lt, List, [], ◌∷◌, length, Option, Some, None, is_some, slice_get, slice_index_or, refl, sym, subst, ◌∙◌, arith}
 use Rattle.std.proofs.lemmas.Option.{slice_get-get_or}
 use Rattle.std.proofs.lemmas.Bool.Decides.{nat_tests}
 use Rattle.circuit_model.specs.declared.model.Cell.{Cell}
 use Rattle.circuit_model.specs.declared.model.Instance.{Instance}
-use Rattle.circuit_model.specs.declared.model.Primitive.{Primitive}
 use Rattle.circuit_model.specs.Closure.{AreHeld}
-use Rattle.circuit_model.specs.Inference.{IsOfPorts, Matches, Forces}
+use Rattle.circuit_model.specs.Inference.{IsOfPorts}
+use Rattle.circuit_model.proofs.Inferences.{Forces-of_ports}
 use Rattle.present_closure.specs.declared.closing.TheConstants.{CHOICES}
 use Rattle.present_closure.specs.declared.table.Step.{Step}
 use Rattle.present_closure.specs.declared.table.Step.TheVariants.{Quiet, Grew, Clash}
 use Rattle.present_closure.specs.Closing.{Table, word_at, kept_at, kept, IsReady, IsIn, IsSettledAt, IsSettledFor, Learns}
-use Rattle.present_closure.proofs.Choices.{Relates-length}
 
 -- where nothing was learnt, the table is the same and settled
 pub Learns-quiet : (instance : Instance) (Settled : Table → Type 0) (table now new : Table) (step : Step) → step ≡ Quiet → now ≡ table → Learns instance (Settled now) now new step → (new ≡ table) × Settled table
 Learns-quiet instance Settled table now new Quiet is same learns = (learns.0 ∙ same, subst Settled same learns.1)
 Learns-quiet instance Settled table now new Grew is same learns = cc
 Learns-quiet instance Settled table now new Clash is same learns = cc
-
--- a tuple has a word where one is known
-Matches-within : (known : List (Option ℕ)) (t : List ℕ) (p v : ℕ) → Matches known t → slice_get known p ≡ Some (Some v) → p < length t
-Matches-within [] t p v m e = cc
-Matches-within (None ∷ known) [] zero v m e = cc
-Matches-within (None ∷ known) [] (suc p) v m e = absurd (let below : p < 0 = Matches-within known [] p v m e in omega arith)
-Matches-within (None ∷ known) (x ∷ t) zero v m e = cc
-Matches-within (None ∷ known) (x ∷ t) (suc p) v m e = omega (arith, Matches-within known t p v m e)
-Matches-within (Some y ∷ known) [] p v m e = absurd m
-Matches-within (Some y ∷ known) (x ∷ t) zero v m e = omega arith
-Matches-within (Some y ∷ known) (x ∷ t) (suc p) v m e = omega (arith, Matches-within known t p v m.1 e)
-
--- words that force are at ports
-Forces-of_ports : (prim : Primitive) (widths : List ℕ) (known : List (Option ℕ)) (port v : ℕ) → Forces prim widths known port v → IsOfPorts prim known
-Forces-of_ports prim widths known port v f p w e =
-    let t : List ℕ = f.some_tuple.0 in
-    let inside : p < length t = Matches-within known t p w f.some_tuple.2 e in
-    rw (← Relates-length prim widths t f.some_tuple.1.relates) inside
 
 module _ (table : Table) (instance : Instance) (ready : IsReady table instance) where
   -- what is kept at a place is what is known there, where the choice names the places of known words

@@ -1,26 +1,20 @@
 -- What is taken from sound words is sound.
-use Rattle.std.proofs.Common.{◌≡◌, ◌≢◌, ℕ, zero, suc, ◌<◌, ◌^◌, List, [], ◌∷◌, length, Option, Some, slice_get, get_or, subst, arith}
+use Rattle.std.proofs.Common.{◌≡◌, ◌≢◌, ℕ, ◌<◌, ◌^◌, List, length, Option, Some, slice_get, get_or, subst, arith}
 use Rattle.std.proofs.lemmas.Option.{slice_get-get_or, slice_get_within}
 use Rattle.environment_sets.specs.Sets.{Set}
 use Rattle.circuit_model.specs.declared.model.Cell.{Cell}
 use Rattle.circuit_model.specs.declared.model.Instance.{Instance}
 use Rattle.circuit_model.specs.Closure.{fact, AreHeld}
-use Rattle.circuit_model.specs.Inference.{Forces, Refutes, FitEach}
+use Rattle.circuit_model.specs.Inference.{Forces, Refutes}
+use Rattle.circuit_model.proofs.Inferences.{FitEach-at}
 use Rattle.circuit_model.specs.Stock.{IsChosen, Has, IsRefutedBy}
 use Rattle.circuit_model.specs.Diagnoses.{Place, AtPart}
-use Rattle.circuit_model.specs.Present.{Setup, width_of}
+use Rattle.circuit_model.specs.Present.{PresentView, width_of}
 use Rattle.circuit_model.specs.Whole.{stock}
 use Rattle.circuit_model.proofs.Rounds.{Follows-forced, Clashes-refuted, Clashes-two_words}
 use Rattle.present_closure.specs.Closing.{Table, word_at, IsBacked, IsSound, IsInstanceAt, AreKept}
 
--- a word fits the width at its place in a tuple
-FitEach-at : (widths t : List ℕ) (p w v : ℕ) → FitEach widths t → slice_get widths p ≡ Some w → slice_get t p ≡ Some v → v < 2 ^ w
-FitEach-at widths [] p w v h k e = cc
-FitEach-at [] (x ∷ t) p w v h k e = absurd h
-FitEach-at (u ∷ widths) (x ∷ t) zero w v h k e = let a : u ≡ w = cc in let b : x ≡ v = cc in let P : ℕ → ℕ → Type 0 = λ x u. x < 2 ^ u in subst (λ (u : ℕ). P v u) a (subst (λ (x : ℕ). P x u) b h.0)
-FitEach-at (u ∷ widths) (x ∷ t) (suc p) w v h k e = FitEach-at widths t p w v h.1 k e
-
-module _ (s : Setup) (E : Set Place) (table : Table) (sound : IsSound s E table) (place : ℕ) (instance : Instance) (at : IsInstanceAt s E place instance) where
+module _ (s : PresentView) (E : Set Place) (table : Table) (sound : IsSound s E table) (place : ℕ) (instance : Instance) (at : IsInstanceAt s E place instance) where
   module _ (known : List (Option ℕ)) (kept : AreKept table instance known) where
     -- what is kept at a port is the word at its cell
     at_cell : (port v : ℕ) (c : Cell) → slice_get known port ≡ Some (Some v) → slice_get instance.cells port ≡ Some c → word_at table c ≡ Some v
@@ -81,7 +75,7 @@ module _ (s : Setup) (E : Set Place) (table : Table) (sound : IsSound s E table)
     })
 
 -- two words at a cell are a clash of E
-pub two_words_clash : (s : Setup) (E : Set Place) (c : Cell) (v w : ℕ) → IsBacked s E c v → IsBacked s E c w → v ≢ w → IsRefutedBy (stock s) E
+pub two_words_clash : (s : PresentView) (E : Set Place) (c : Cell) (v w : ℕ) → IsBacked s E c v → IsBacked s E c w → v ≢ w → IsRefutedBy (stock s) E
 two_words_clash s E c v w a b differ = Clashes-two_words (IsChosen (stock s) E) (record {
   cell = c;
   low = v;

@@ -7,9 +7,11 @@ use Rattle.std.proofs.lemmas.Bool.{cases_lt}
 use Rattle.environment_sets.specs.Sets.{Set}
 use Rattle.circuit_model.specs.declared.model.Cell.{Cell}
 use Rattle.circuit_model.specs.Diagnoses.{Place}
-use Rattle.circuit_model.specs.Present.{MOST_CYCLES, Setup}
+use Rattle.circuit_model.specs.Present.{PresentView}
+use Rattle.circuit_model.specs.declared.limits.TheConstants.{MOST_CYCLES}
 use Rattle.present_closure.specs.Closing.{Table, empty_table, row_at, word_at, with_word, HasPlace, empty_places, IsBacked, IsSound, Grows}
-use Rattle.present_closure.proofs.Grids.{same_or_other, value_same, value_other, row_length}
+use Rattle.circuit_model.proofs.Cells.{same_or_other}
+use Rattle.present_closure.proofs.Grids.{value_same, value_other, row_length}
 
 module _ (table : Table) (c : Cell) (v : ℕ) (place : HasPlace table c) where
   abbrev new_row : List (Option ℕ)
@@ -42,7 +44,7 @@ module _ (table : Table) (c : Cell) (v : ℕ) (place : HasPlace table c) where
     ]
 
   -- one word more
-  pub sound_with : (s : Setup) (E : Set Place) → IsSound s E table → IsBacked s E c v → IsSound s E (with_word table c v)
+  pub sound_with : (s : PresentView) (E : Set Place) → IsSound s E table → IsBacked s E c v → IsSound s E (with_word table c v)
   sound_with s E sound backed = record { wide = length-set table c.net new_row ∙ sound.wide; rows = rows; backed = each } where
     rows : (net : ℕ) → net < length (with_word table c v) → length (row_at (with_word table c v) net) ≡ MOST_CYCLES
     rows net low = row_length None table c (Some v) place.net net ∙ sound.rows net (rw (← length-set table c.net new_row) low)
@@ -59,7 +61,7 @@ module _ (table : Table) (c : Cell) (v : ℕ) (place : HasPlace table c) where
     ]
 
 -- a sound table has a place for each cell of the present
-pub place_in : (s : Setup) (E : Set Place) (table : Table) (c : Cell) → IsSound s E table → c.net < length s.nets → c.cycle < MOST_CYCLES → HasPlace table c
+pub place_in : (s : PresentView) (E : Set Place) (table : Table) (c : Cell) → IsSound s E table → c.net < length s.nets → c.cycle < MOST_CYCLES → HasPlace table c
 place_in s E table c sound net cycle =
     let inside : c.net < length table = rw sound.wide net in
     record { net = inside; cycle = rw (sound.rows c.net inside) cycle }
@@ -78,7 +80,7 @@ abbrev pub no_row : List (Option ℕ)
 no_row = replicate MOST_CYCLES None
 
 -- there is no word, and nothing has to follow
-pub empty_sound : (s : Setup) (E : Set Place) → IsSound s E (empty_table (length s.nets))
+pub empty_sound : (s : PresentView) (E : Set Place) → IsSound s E (empty_table (length s.nets))
 empty_sound s E = record { wide = length-replicate (length s.nets) no_row; rows = rows; backed = λ c v e. absurd (never c v (none_at c) e) } where
   rows : (net : ℕ) → net < length (empty_table (length s.nets)) → length (row_at (empty_table (length s.nets)) net) ≡ MOST_CYCLES
   rows net low =

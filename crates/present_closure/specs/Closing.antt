@@ -1,8 +1,9 @@
 -- Closing an environment of a present, word by word.
 use Rattle.std.specs.Prelude.{◌≡◌, ◌≢◌, ℕ, ◌<◌, ◌^◌, ◌⊎◌, ◌&&◌, nat_lt, Bool, false, if◌then◌else◌, IsTrue, List, [], ◌∷◌, length, count_by, Option, Some, None, is_none, replicate, slice_get, slice_index_or, slice_set}
-use Rattle.std.specs.List.{Contains, sum_by}
+use Rattle.std.specs.List.{sum_by}
 use Rattle.std.specs.Option.{option_and_then}
 use Rattle.environment_sets.specs.Sets.{Set}
+use Rattle.environment_sets.specs.Lists as lists
 use Rattle.circuit_model.specs.declared.model.Cell.{Cell}
 use Rattle.circuit_model.specs.declared.model.Fact.{Fact}
 use Rattle.circuit_model.specs.declared.model.Instance.{Instance}
@@ -10,10 +11,11 @@ use Rattle.circuit_model.specs.declared.model.Assumption.TheVariants.{Part}
 use Rattle.circuit_model.specs.declared.present.Component.{Component}
 use Rattle.circuit_model.specs.Closure.{fact, AreHeld}
 use Rattle.circuit_model.specs.Inference.{Forces, Refutes}
-use Rattle.circuit_model.specs.Lawful.{IsLawful}
+use Rattle.circuit_model.specs.Lawful.{IsLawfulInstance}
 use Rattle.circuit_model.specs.Stock.{Has, IsRefutedBy}
 use Rattle.circuit_model.specs.Diagnoses.{Place, AtPart, AtCell}
-use Rattle.circuit_model.specs.Present.{MOST_CYCLES, Setup, width_of, reading_in}
+use Rattle.circuit_model.specs.Present.{PresentView, width_of, reading_in}
+use Rattle.circuit_model.specs.declared.limits.TheConstants.{MOST_CYCLES}
 use Rattle.circuit_model.specs.Whole.{stock}
 use Rattle.present_closure.specs.declared.table.Step.{Step}
 use Rattle.present_closure.specs.declared.table.Step.TheVariants.{Quiet, Grew, Clash}
@@ -26,6 +28,7 @@ Table = List (List (Option ℕ))
 abbrev pub empty_table : ℕ → Table
 empty_table nets = replicate nets (replicate MOST_CYCLES None)
 
+-- the words at a net, none past the nets
 abbrev pub row_at : Table → ℕ → List (Option ℕ)
 row_at table net = slice_index_or table net []
 
@@ -51,18 +54,18 @@ abbrev pub IsIn : Table → Fact → Type 0
 IsIn table f = word_at table f.cell ≡ Some f.value
 
 -- the word fits the net, and follows from E
-pub record IsBacked (s : Setup) (E : Set Place) (c : Cell) (v : ℕ) : Type 0 where
+pub record IsBacked (s : PresentView) (E : Set Place) (c : Cell) (v : ℕ) : Type 0 where
   pub fits : v < 2 ^ width_of s c.net
   pub follows : Has (stock s) (fact c v) E
 
 -- a row for each net, with a place for each cycle, and each word follows from E
-pub record IsSound (s : Setup) (E : Set Place) (table : Table) : Type 0 where
+pub record IsSound (s : PresentView) (E : Set Place) (table : Table) : Type 0 where
   pub wide : length table ≡ length s.nets
   pub rows : (net : ℕ) → net < length table → length (row_at table net) ≡ MOST_CYCLES
   pub backed : (c : Cell) (v : ℕ) → word_at table c ≡ Some v → IsBacked s E c v
 
 -- the table has each measured word of E
-abbrev pub HasReadings : Setup → Set Place → Table → Type 0
+abbrev pub HasReadings : PresentView → Set Place → Table → Type 0
 HasReadings s E table = (c : Cell) (v : ℕ) → IsTrue (E (AtCell c)) → reading_in s.readings c ≡ Some v → word_at table c ≡ Some v
 
 -- the word at a port that the choice names
@@ -88,18 +91,18 @@ IsSettledFor table instance = (known : List (Option ℕ)) → AreHeld (IsIn tabl
 
 -- so for all instances of the component
 abbrev pub IsSettledPart : Table → Component → Type 0
-IsSettledPart table c = (instance : Instance) → Contains c.part instance → IsSettledFor table instance
+IsSettledPart table c = (instance : Instance) → lists.IsIn c.part instance → IsSettledFor table instance
 
 -- so for the component at the place
-abbrev pub IsSettledPlace : Setup → Table → ℕ → Type 0
+abbrev pub IsSettledPlace : PresentView → Table → ℕ → Type 0
 IsSettledPlace s table place = (c : Component) → slice_get s.parts place ≡ Some c → IsSettledPart table c
 
 -- so where E has the component
-abbrev pub IsSettledIn : Setup → Set Place → Table → ℕ → Type 0
+abbrev pub IsSettledIn : PresentView → Set Place → Table → ℕ → Type 0
 IsSettledIn s E table place = IsTrue (E (AtPart place)) → IsSettledPlace s table place
 
 -- so for all components of E
-abbrev pub IsSettled : Setup → Set Place → Table → Type 0
+abbrev pub IsSettled : PresentView → Set Place → Table → Type 0
 IsSettled s E table = (place : ℕ) → IsSettledIn s E table place
 
 -- words stay, and fewer places are empty
@@ -108,12 +111,12 @@ pub record Grows (old new : Table) : Type 0 where
   pub fewer : empty_places new < empty_places old
 
 -- the instance is one of the component at the place, one of E, at cells of the present
-pub record IsInstanceAt (s : Setup) (E : Set Place) (place : ℕ) (instance : Instance) : Type 0 where
+pub record IsInstanceAt (s : PresentView) (E : Set Place) (place : ℕ) (instance : Instance) : Type 0 where
   pub part : List Instance
   pub chosen : IsTrue (E (AtPart place))
   pub assumed : stock s (AtPart place) ≡ Some (Part part)
-  pub of_part : Contains part instance
-  pub lawful : IsLawful instance
+  pub of_part : lists.IsIn part instance
+  pub lawful : IsLawfulInstance instance
   pub three : length instance.cells ≡ 3
   pub widths : length instance.widths ≡ 3
   pub at_nets : (port : ℕ) (c : Cell) → slice_get instance.cells port ≡ Some c → c.net < length s.nets
@@ -127,7 +130,7 @@ pub record AreKept (table : Table) (instance : Instance) (known : List (Option �
 
 -- an instance at cells with a place in the table, and the words there fit
 pub record IsReady (table : Table) (instance : Instance) : Type 0 where
-  pub lawful : IsLawful instance
+  pub lawful : IsLawfulInstance instance
   pub three : length instance.cells ≡ 3
   pub in_table : (port : ℕ) (c : Cell) → slice_get instance.cells port ≡ Some c → HasPlace table c
   pub words : (port w v : ℕ) (c : Cell) → slice_get instance.cells port ≡ Some c → slice_get instance.widths port ≡ Some w → word_at table c ≡ Some v → v < 2 ^ w
@@ -176,13 +179,13 @@ Learns instance Settled old new Grew = PutsForced instance old new Grew
 Learns instance Settled old new Clash = IsRefutedAt old instance ⊎ PutsForced instance old new Clash
 
 -- What a step comes to: the table as it was, and settled; one word more, all of them sound; or a clash of E.
-abbrev pub Tells : Setup → Set Place → Type 0 → Table → Table → Step → Type 0
+abbrev pub Tells : PresentView → Set Place → Type 0 → Table → Table → Step → Type 0
 Tells s E Settled old new Quiet = (new ≡ old) × Settled
 Tells s E Settled old new Grew = IsSound s E new × Grows old new
 Tells s E Settled old new Clash = IsRefutedBy (stock s) E
 
 -- the table has exactly what follows from E, and nothing clashes
-pub record IsClosed (s : Setup) (E : Set Place) (table : Table) : Type 0 where
+pub record IsClosed (s : PresentView) (E : Set Place) (table : Table) : Type 0 where
   pub sound : IsSound s E table
   pub complete : (f : Fact) → Has (stock s) f E → IsIn table f
   pub consistent : IsRefutedBy (stock s) E → ⊥

@@ -3,7 +3,7 @@ use Rattle.std.specs.Prelude.{◌≡◌, ℕ, ◌||◌, Bool, false, List, [], s
 use Rattle.environment_sets.specs.Sets.{Set}
 use Rattle.circuit_model.specs.declared.model.Cell.{Cell}
 use Rattle.circuit_model.specs.Diagnoses.{Place, AtPart, AtCell}
-use Rattle.circuit_model.specs.Present.{Setup}
+use Rattle.circuit_model.specs.Present.{PresentView}
 use Rattle.circuit_model.specs.Whole.{stock}
 use Rattle.present_closure.specs.declared.environment.Environment.{Environment}
 
@@ -22,6 +22,6 @@ pub record IsPartsOf (E F : Set Place) : Type 0 where
   pub cells : (c : Cell) → F (AtCell c) ≡ false
 
 -- F is E with all measured cells
-pub record IsWithReadings (s : Setup) (E F : Set Place) : Type 0 where
+pub record IsWithReadings (s : PresentView) (E F : Set Place) : Type 0 where
   pub parts : (k : ℕ) → F (AtPart k) ≡ E (AtPart k)
   pub cells : (c : Cell) → F (AtCell c) ≡ (E (AtCell c) || is_some (stock s (AtCell c)))

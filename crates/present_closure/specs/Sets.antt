@@ -3,6 +3,7 @@ use Rattle.std.specs.Prelude.{◌≡◌, ◌⊎◌, IsTrue}
 use Rattle.environment_sets.specs.Sets.{Set, ◌⊆◌}
 
 module _ {N : Type 0} where
+  -- no name is in the set
   abbrev pub IsEmpty : Set N → Type 0
   IsEmpty E = (k : N) → IsTrue (E k) → ⊥
 

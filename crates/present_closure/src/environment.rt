@@ -1,21 +1,22 @@
 // Sets of components and measured cells.
 
 use crate::flags::{are_within, is_set, is_set_in, is_within, set_in};
+use crate::sizes::{CYCLES, NETS, PARTS};
 use circuit_model::{Cell, Present};
 
 /// Some of the components and the measured cells of a present: components by their places, cells by their nets and
 /// cycles.
 #[derive(Clone, Copy, Debug)]
 pub struct Environment {
-    parts: [bool; 64],
-    cells: [[bool; 16]; 256],
+    parts: [bool; PARTS],
+    cells: [[bool; CYCLES]; NETS],
 }
 
 impl Environment {
     ghost use Rattle.std.specs.Prelude.{◌≡◌, ◌<◌, ◌↔◌, IsTrue};
     ghost use Rattle.environment_sets.specs.Sets.{◌⊆◌};
     ghost use Rattle.circuit_model.specs.Diagnoses.{AtPart, AtCell};
-    ghost use Rattle.circuit_model.specs.Present.{MOST_CYCLES, MOST_NETS, MOST_PARTS};
+    ghost use Rattle.circuit_model.specs.declared.limits.TheConstants.{MOST_CYCLES, MOST_NETS, MOST_PARTS};
     ghost use Rattle.present_closure.specs.Members.{members, IsPartsOf, IsWithReadings};
     ghost use Rattle.present_closure.specs.Sets.{IsEmpty, IsWith};
 
@@ -24,8 +25,8 @@ impl Environment {
         ensures { IsEmpty (members result) }
     {
         Environment {
-            parts: [false; 64],
-            cells: [[false; 16]; 256],
+            parts: [false; PARTS],
+            cells: [[false; CYCLES]; NETS],
         }
     }
 
@@ -46,11 +47,11 @@ impl Environment {
     {
         Environment {
             parts: self.parts,
-            cells: [[false; 16]; 256],
+            cells: [[false; CYCLES]; NETS],
         }
     }
 
-    /// The same with a component.
+    /// The same with a component, by its place in order of declaration.
     pub fn with_part(mut self, place: u16) -> Environment
         requires { place < MOST_PARTS }
         ensures { IsWith (members self) (AtPart place) (members result) }
@@ -59,7 +60,7 @@ impl Environment {
         self
     }
 
-    /// The same with a measured cell.
+    /// The same with a measured cell. A cell that is not measured says nothing.
     pub fn with_cell(mut self, cell: Cell) -> Environment
         requires net { cell.net < MOST_NETS }
         requires cycle { cell.cycle < MOST_CYCLES }

@@ -11,6 +11,7 @@ ghost use Rattle.present_closure.specs.Members.{members};
 use crate::closing::close;
 use crate::closure::Closure;
 use crate::environment::Environment;
+use crate::sizes::CYCLES;
 use crate::table::Row;
 use circuit_model::{Fact, Present};
 use std::alloc::{AllocError, Global};
@@ -25,7 +26,7 @@ pub enum Closed {
 }
 
 /// All that follows from these components and measurements of a present; those that the present does not have say
-/// nothing. (Local propagation, after de Kleer and Williams 1987.)
+/// nothing. (Local propagation, after de Kleer and Williams 1987.) Where memory is wanting, nothing is left behind.
 pub fn close_environment(
     alloc: Global,
     present: &Present,
@@ -46,7 +47,7 @@ fn empty_rows(alloc: Global, nets: u16) -> Result<Vec<Row>, AllocError>
 {
     let mut rows = Vec::with_capacity(alloc, nets as usize)?;
     for _net in 0..nets {
-        rows.push([None; 16])?;
+        rows.push([None; CYCLES])?;
     }
     Ok(rows)
 }

@@ -2,9 +2,10 @@
 
 ghost use Rattle.std.specs.Prelude.{◌≡◌, ◌≢◌, ◌↔◌, IsTrue, ℕ, ◌<◌, length, true, false, slice_index_or};
 ghost use Rattle.circuit_model.specs.declared.model.Cell.{Cell};
-ghost use Rattle.circuit_model.specs.Present.{MOST_CYCLES};
+ghost use Rattle.circuit_model.specs.declared.limits.TheConstants.{MOST_CYCLES};
 ghost use Rattle.present_closure.specs.Members.{flag_at};
 
+use crate::sizes::CYCLES;
 use circuit_model::Cell;
 
 /// The value at a place, false past the end.
@@ -37,7 +38,7 @@ fn is_set_at(flags: &[bool], place: usize) -> bool
 }
 
 /// The value at a cell, where each net has a row, false past the ends.
-pub fn is_set_in(rows: &[[bool; 16]], cell: Cell) -> bool
+pub fn is_set_in(rows: &[[bool; CYCLES]], cell: Cell) -> bool
     ensures { result ≡ flag_at rows.now cell }
 {
     match rows.get(cell.net as usize) {
@@ -47,7 +48,7 @@ pub fn is_set_in(rows: &[[bool; 16]], cell: Cell) -> bool
 }
 
 /// Sets the value at a cell.
-pub fn set_in(rows: &mut [[bool; 16]], cell: Cell)
+pub fn set_in(rows: &mut [[bool; CYCLES]], cell: Cell)
     requires net { cell.net < length rows.old }
     requires cycle { cell.cycle < MOST_CYCLES }
     ensures here { flag_at rows.new cell ≡ true }
@@ -57,7 +58,7 @@ pub fn set_in(rows: &mut [[bool; 16]], cell: Cell)
 }
 
 /// Whether what is set is set in the other rows.
-pub fn are_within(rows: &[[bool; 16]], others: &[[bool; 16]]) -> bool
+pub fn are_within(rows: &[[bool; CYCLES]], others: &[[bool; CYCLES]]) -> bool
     requires { length rows.now ≡ length others.now }
     ensures { IsTrue result ↔ ((c : Cell) → IsTrue (flag_at rows.now c) → IsTrue (flag_at others.now c)) }
 {

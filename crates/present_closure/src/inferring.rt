@@ -7,7 +7,7 @@ ghost use Rattle.present_closure.specs.Closing.{kept, IsReady, IsSettledAt, Lear
 
 use crate::table::{Row, Step, put_all};
 use circuit_model::Instance;
-use component_models::infer;
+use component_models::{has_open_port, infer};
 
 /// Puts in what the words at the chosen ports force, up to the first word that was not there.
 pub fn take_choice(instance: &Instance, choice: &[bool; 3], table: &mut [Row]) -> Step
@@ -15,7 +15,7 @@ pub fn take_choice(instance: &Instance, choice: &[bool; 3], table: &mut [Row]) -
     ensures { Learns instance.now (IsSettledAt table.old instance.now (kept table.old instance.now choice.now)) table.old table.new result }
 {
     let known = keep(instance, choice, table);
-    if !has_open_port(instance.ports, &known) {
+    if !has_open_port(instance.ports, known) {
         return Step::Quiet;
     }
     let inference = infer(instance.prim, instance.widths, known);
@@ -49,17 +49,4 @@ fn kept_at(instance: &Instance, choice: &[bool; 3], table: &[Row], port: u8) -> 
     } else {
         None
     }
-}
-
-/// Whether no word is known at some port.
-fn has_open_port(ports: u8, known: &[Option<u64>; 3]) -> bool
-    requires { ports ≤ 3 }
-    ensures { IsTrue result ↔ ((port : ℕ) × (port < ports) × IsUnknownAt known.now port) }
-{
-    for port in 0..ports {
-        if known[port as usize].is_none() {
-            return true;
-        }
-    }
-    false
 }

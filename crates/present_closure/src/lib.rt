@@ -7,11 +7,9 @@ mod environment;
 mod facts;
 mod flags;
 mod inferring;
+mod sizes;
 mod table;
 
 pub use closure::Closure;
 pub use environment::Environment;
 pub use facts::{Closed, close_environment};
-
-#[cfg(test)]
-mod tests;

@@ -4,10 +4,11 @@ ghost use Rattle.std.specs.Prelude.{◌≡◌, ℕ, slice_get};
 ghost use Rattle.circuit_model.specs.declared.model.Cell.{Cell};
 ghost use Rattle.present_closure.specs.Closing.{HasPlace, Puts, PutsAll};
 
+use crate::sizes::CYCLES;
 use circuit_model::Cell;
 
 /// The words at a net, in order of cycles.
-pub type Row = [Option<u64>; 16];
+pub type Row = [Option<u64>; CYCLES];
 
 /// What a step of the closing comes to.
 #[derive(Clone, Copy, Debug)]

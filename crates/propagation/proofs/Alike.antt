@@ -3,7 +3,8 @@ use Rattle.std.proofs.Common.{◌⊎◌, ℕ, inl, inr, ◌↔◌, Some, None}
 use Rattle.circuit_model.specs.Closure.{fact}
 use Rattle.environment_sets.specs.Sets.{Set}
 use Rattle.circuit_model.specs.Stock.{Stock}
-use Rattle.circuit_model.specs.Settled.{IsCovered, IsSettled}
+use Rattle.environment_sets.specs.Families.{IsCovered}
+use Rattle.circuit_model.specs.Settled.{IsSettled}
 use Rattle.circuit_model.proofs.Monotony.{AreHeld-map}
 use Rattle.propagation.specs.Propagating.{Target, Family}
 

@@ -1,15 +1,16 @@
 -- Where nothing is due and nothing waits, what is kept is settled.
-use Rattle.std.proofs.Common.{◌≡◌, ℕ, ◌⊎◌, inl, inr, IsTrue, refl, sym, subst, ◌∙◌, List, [], ◌∷◌, Option, Some, None}
+use Rattle.std.proofs.Common.{◌≡◌, ℕ, inl, inr, IsTrue, refl, sym, subst, ◌∙◌, List, [], ◌∷◌, Option, Some, None}
 use Rattle.circuit_model.specs.declared.model.Cell.{Cell}
 use Rattle.circuit_model.specs.declared.model.Fact.{Fact}
 use Rattle.circuit_model.specs.Closure.{fact, AreHeld}
 use Rattle.environment_sets.specs.Lists.{IsIn}
 use Rattle.environment_sets.specs.Sets.{Set}
 use Rattle.circuit_model.specs.Stock.{Stock}
-use Rattle.circuit_model.specs.Settled.{IsCovered, IsSettled, AreExact}
+use Rattle.environment_sets.specs.Families.{IsCovered}
+use Rattle.circuit_model.specs.Settled.{IsSettled, AreExact}
 use Rattle.circuit_model.proofs.Monotony.{AreHeld-map}
 use Rattle.circuit_model.proofs.Settled as settled_is
-use Rattle.propagation.specs.Propagating.{Target, Family, Inference, HasMaker, AreChosen, SomeWaits, IsKnownAt, IsReached, IsDue, IsSound, AreRecorded, AreCarriedOut}
+use Rattle.propagation.specs.Propagating.{Target, Family, RecordedInference, HasMaker, AreChosen, SomeWaits, IsKnownAt, IsReached, IsDue, IsSound, HasInference, IsEither, All, AreRecorded, AreCarriedOut}
 
 none_wait : (waits : Fact → Set ℕ → Type 0) (fs : List Fact) (ms : List (Set ℕ)) → ((f : Fact) (m : Set ℕ) → waits f m → ⊥) → SomeWaits waits fs ms → ⊥
 none_wait waits [] ms none h = h
@@ -25,17 +26,17 @@ choose kept E (f ∷ fs) each =
     (c.0 ∷ rest.0, (c.1, c.2, rest.1))
 
 module _
-    (S : Stock ℕ) (alive : Fact → Type 0) (kept : Family) (recorded : Inference → Type 0) (pending : Family) (waits : Inference → Fact → Set ℕ → Type 0)
-    (sound : IsSound S kept) (are : AreRecorded S alive recorded) (carried : AreCarriedOut S kept recorded pending waits)
-    (lives : (f : Fact) (E : Set ℕ) → kept (Some f) E → alive f)
+    (S : Stock ℕ) (met : Fact → Type 0) (kept : Family) (recorded : RecordedInference → Type 0) (pending : Family) (waits : RecordedInference → Fact → Set ℕ → Type 0)
+    (sound : IsSound S kept) (are : AreRecorded S met All recorded) (carried : AreCarriedOut S kept recorded pending waits)
+    (were_met : (f : Fact) (E : Set ℕ) → kept (Some f) E → met f)
     (none_due : (t : Target) (E : Set ℕ) → pending t E → ⊥)
-    (nothing_waits : (j : Inference) (f : Fact) (E : Set ℕ) → waits j f E → ⊥)
+    (nothing_waits : (j : RecordedInference) (f : Fact) (E : Set ℕ) → waits j f E → ⊥)
   where
     reached : (t : Target) (E : Set ℕ) → IsDue kept pending t E → IsReached kept t E
     reached t E (inl r) = r
     reached t E (inr d) = absurd (none_due t d.0 d.1)
 
-    follow : (j : Inference) (E : Set ℕ) → recorded j → HasMaker j.maker E → ((f : Fact) → IsIn j.from f → IsCovered (kept (Some f)) E) → IsReached kept j.to E
+    follow : (j : RecordedInference) (E : Set ℕ) → recorded j → HasMaker j.maker E → ((f : Fact) → IsIn j.from f → IsCovered (kept (Some f)) E) → IsReached kept j.to E
     follow j E r maker each =
         let c : (ms : List (Set ℕ)) × AreChosen kept E j.from ms = choose kept E j.from each in
         elim (carried.inferences j c.0 E r c.1 maker) [
@@ -53,8 +54,8 @@ module _
     clash E (inl c) = c
     clash E (inr c) = c
 
-    alive_of : (E : Set ℕ) (f : Fact) → IsCovered (kept (Some f)) E → alive f
-    alive_of E f c = lives f c.0 c.1
+    met_of : (E : Set ℕ) (f : Fact) → IsCovered (kept (Some f)) E → met f
+    met_of E f c = were_met f c.0 c.1
 
     pub settled : IsSettled S (λ f. kept (Some f)) (kept None)
     settled = record {
@@ -67,15 +68,15 @@ module _
       clean = sound.clean;
       readings = λ k f E named inside. reached (Some f) E (carried.readings k f E named inside);
       forced = λ k part instance known p v c E named inside of_part held at forces.
-          let j : (j : Inference) × recorded j × (j.to ≡ Some (fact c v)) × (j.maker ≡ Some k) × ((f : Fact) → IsIn j.from f → IsKnownAt instance.cells known f) = are.forced k part instance known p v c named of_part (AreHeld-map (alive_of E) held) at forces in
+          let j : HasInference recorded (Some (fact c v)) (Some k) (IsKnownAt instance.cells known) = are.forced k part instance known p v c named of_part tt (AreHeld-map (met_of E) held) at forces in
           let P : Target → Type 0 = λ t. IsReached kept t E in
           subst P j.2 (follow j.0 E j.1 (made j.0.maker k E j.3 inside) (λ f i. known_covered E instance.cells known held f (j.4 f i)));
       refuted = λ k part instance known E named inside of_part held refutes.
-          let j : (j : Inference) × recorded j × (j.to ≡ None) × (j.maker ≡ Some k) × ((f : Fact) → IsIn j.from f → IsKnownAt instance.cells known f) = are.refuted k part instance known named of_part (AreHeld-map (alive_of E) held) refutes in
+          let j : HasInference recorded None (Some k) (IsKnownAt instance.cells known) = are.refuted k part instance known named of_part tt (AreHeld-map (met_of E) held) refutes in
           let P : Target → Type 0 = λ t. IsReached kept t E in
           clash E (subst P j.2 (follow j.0 E j.1 (made j.0.maker k E j.3 inside) (λ f i. known_covered E instance.cells known held f (j.4 f i))));
       two_words = λ c v w E differ low high.
-          let j : (j : Inference) × recorded j × (j.to ≡ None) × (j.maker ≡ None) × ((f : Fact) → IsIn j.from f → (f ≡ fact c v) ⊎ (f ≡ fact c w)) = are.two_words c v w differ (alive_of E _ low) (alive_of E _ high) in
+          let j : HasInference recorded None None (IsEither (fact c v) (fact c w)) = are.two_words c v w differ tt (met_of E _ low) (met_of E _ high) in
           let P : Target → Type 0 = λ t. IsReached kept t E in
           let Q : Fact → Type 0 = λ f. IsCovered (kept (Some f)) E in
           clash E (subst P j.2 (follow j.0 E j.1 (λ i is. absurd (let no : None ≡ Some i = sym j.3 ∙ is in cc)) (λ f i. elim (j.4 f i) [ inl e ↦ subst Q (sym e) low | inr e ↦ subst Q (sym e) high ])));

@@ -6,10 +6,11 @@ use Rattle.circuit_model.specs.declared.model.Assumption.TheVariants.{Part, Read
 use Rattle.environment_sets.specs.Lists.{IsIn}
 use Rattle.environment_sets.specs.Sets.{Set}
 use Rattle.circuit_model.specs.Stock.{Stock, IsEnvironment, Has}
-use Rattle.circuit_model.specs.Settled.{IsCovered, IsAntichain, IsSettled}
+use Rattle.environment_sets.specs.Families.{IsCovered, IsAntichain}
+use Rattle.circuit_model.specs.Settled.{IsSettled}
 use Rattle.circuit_model.specs.Laws.{HasOneMore}
 use Rattle.circuit_model.proofs.Settled as settled_is
-use Rattle.propagation.specs.Propagating.{Target, Family, Inference, HasAt, Leads, HasMaker, AreChosen, SomeWaits, IsReached, IsDue, IsSound, AreRecorded, AreCarriedOut, IsPendingSound, IsWaitingSound, IsPropagating}
+use Rattle.propagation.specs.Propagating.{Target, Family, RecordedInference, HasAt, Leads, HasMaker, AreChosen, SomeWaits, IsReached, IsDue, IsSound, All, AreRecorded, AreCarriedOut, IsPendingSound, IsWaitingSound, IsPropagating}
 use Rattle.propagation.proofs.Unions.{leads_on, has_more}
 use Rattle.propagation.proofs.Entry.{leads_more, sound_more, entry_reaches}
 
@@ -24,7 +25,7 @@ abbrev pub Nothing : Family
 Nothing t E = ⊥
 
 -- nothing waits
-abbrev pub NoItem : Inference → Fact → Set ℕ → Type 0
+abbrev pub NoItem : RecordedInference → Fact → Set ℕ → Type 0
 NoItem j f E = ⊥
 
 module _ (S : Stock ℕ) (kept : Family) (settled : IsSettled S (λ f. kept (Some f)) (kept None)) where
@@ -33,7 +34,7 @@ module _ (S : Stock ℕ) (kept : Family) (settled : IsSettled S (λ f. kept (Som
   reached None E h = inl (settled_is.clash_covered S (λ f. kept (Some f)) (kept None) settled E h)
 
   -- each choice for an inference is reached already
-  pub choice_reached : (j : Inference) (ms : List (Set ℕ)) (E : Set ℕ) → Leads S j.from j.maker j.to → AreChosen kept E j.from ms → HasMaker j.maker E → IsReached kept j.to E
+  pub choice_reached : (j : RecordedInference) (ms : List (Set ℕ)) (E : Set ℕ) → Leads S j.from j.maker j.to → AreChosen kept E j.from ms → HasMaker j.maker E → IsReached kept j.to E
   choice_reached j ms E leads chosen maker = reached j.to E (leads_on S E j.from j.maker j.to leads maker (chosen_has S kept settled.sound E j.from ms chosen))
 
   pub sound_of_settled : IsSound S kept
@@ -47,7 +48,7 @@ module _ (S : Stock ℕ) (kept : Family) (settled : IsSettled S (λ f. kept (Som
   module _ (R : Stock ℕ) (slot : ℕ) (more : HasOneMore ℕ S R slot) where
     -- one reading more: it alone is to be put in
     pub carried_reading :
-        (recorded : Inference → Type 0) → ((j : Inference) → recorded j → Leads S j.from j.maker j.to) → (f : Fact) → R slot ≡ Some (Reading f) → (pending : Family)
+        (recorded : RecordedInference → Type 0) → ((j : RecordedInference) → recorded j → Leads S j.from j.maker j.to) → (f : Fact) → R slot ≡ Some (Reading f) → (pending : Family)
         → ((E : Set ℕ) → IsTrue (E slot) → IsCovered (pending (Some f)) E) → ((k : ℕ) → (k ≡ slot) ⊎ (k ≢ slot)) → AreCarriedOut R kept recorded pending NoItem
     carried_reading recorded leads f reads pending alone decide = record {
       readings = λ k g E named inside. elim (decide k) [
@@ -63,35 +64,35 @@ module _ (S : Stock ℕ) (kept : Family) (settled : IsSettled S (λ f. kept (Som
 
     -- and what was recorded is recorded
     pub recorded_reading :
-        (alive : Fact → Type 0) (recorded : Inference → Type 0) → AreRecorded S alive recorded → (f : Fact) → R slot ≡ Some (Reading f) → ((k : ℕ) → (k ≡ slot) ⊎ (k ≢ slot)) → AreRecorded R alive recorded
-    recorded_reading alive recorded are f reads decide = record {
+        (met : Fact → Type 0) (recorded : RecordedInference → Type 0) → AreRecorded S met All recorded → (f : Fact) → R slot ≡ Some (Reading f) → ((k : ℕ) → (k ≡ slot) ⊎ (k ≢ slot)) → AreRecorded R met All recorded
+    recorded_reading met recorded are f reads decide = record {
       leads = λ j r. leads_more S R slot more j.from j.maker j.to (are.leads j r);
-      forced = λ k part instance known p v c named of_part held at forces. elim (decide k) [
+      forced = λ k part instance known p v c named of_part scope held at forces. elim (decide k) [
         | inl e ↦ absurd (let no : Some (Reading f) ≡ Some (Part part) = (let P : ℕ → Type 0 = λ i. R i ≡ Some (Part part) in sym reads ∙ subst P e named) in cc)
-        | inr ne ↦ are.forced k part instance known p v c (more.1 k (Part part) ne named) of_part held at forces
+        | inr ne ↦ are.forced k part instance known p v c (more.1 k (Part part) ne named) of_part scope held at forces
       ];
-      refuted = λ k part instance known named of_part held refutes. elim (decide k) [
+      refuted = λ k part instance known named of_part scope held refutes. elim (decide k) [
         | inl e ↦ absurd (let no : Some (Reading f) ≡ Some (Part part) = (let P : ℕ → Type 0 = λ i. R i ≡ Some (Part part) in sym reads ∙ subst P e named) in cc)
-        | inr ne ↦ are.refuted k part instance known (more.1 k (Part part) ne named) of_part held refutes
+        | inr ne ↦ are.refuted k part instance known (more.1 k (Part part) ne named) of_part scope held refutes
       ];
       two_words = are.two_words;
     }
 
 module _
     (S R : Stock ℕ) (slot : ℕ) (more : HasOneMore ℕ S R slot) (decide : (k : ℕ) → (k ≡ slot) ⊎ (k ≢ slot))
-    (alive : Fact → Type 0) (kept : Family) (recorded : Inference → Type 0) (settled : IsSettled S (λ f. kept (Some f)) (kept None)) (are : AreRecorded S alive recorded)
-    (lives : (f : Fact) (E : Set ℕ) → kept (Some f) E → alive f) (pending : Family) (due : IsPendingSound R pending)
+    (met : Fact → Type 0) (kept : Family) (recorded : RecordedInference → Type 0) (settled : IsSettled S (λ f. kept (Some f)) (kept None)) (are : AreRecorded S met All recorded)
+    (were_met : (f : Fact) (E : Set ℕ) → kept (Some f) E → met f) (pending : Family) (due : IsPendingSound R pending)
   where
     sound_now : IsSound R kept
     sound_now = sound_more S R slot more kept (sound_of_settled S kept settled)
 
     -- one reading more: it alone is to be put in, and nothing waits
-    pub start_reading : (f : Fact) → R slot ≡ Some (Reading f) → ((E : Set ℕ) → IsTrue (E slot) → IsCovered (pending (Some f)) E) → IsPropagating R slot alive kept recorded pending NoItem
+    pub start_reading : (f : Fact) → R slot ≡ Some (Reading f) → ((E : Set ℕ) → IsTrue (E slot) → IsCovered (pending (Some f)) E) → IsPropagating R slot met kept recorded pending NoItem
     start_reading f reads alone = record {
       sound = sound_now;
       before = entry_reaches S R slot more kept settled;
-      are = recorded_reading S kept settled R slot more alive recorded are f reads decide;
-      lives = lives;
+      are = recorded_reading S kept settled R slot more met recorded are f reads decide;
+      were_met = were_met;
       carried = carried_reading S kept settled R slot more recorded are.leads f reads pending alone decide;
       due = due;
       waiting = record { inference = λ j f m w. absurd w; antecedent = λ j f m w. absurd w; environment = λ j f m w. absurd w; sound = λ j f m w. absurd w };
@@ -99,15 +100,15 @@ module _
 
     -- one component more: its inferences are recorded, and each choice for them waits or is to be put in
     pub start_part :
-        (part : List Instance) → R slot ≡ Some (Part part) → (recorded' : Inference → Type 0) (waits : Inference → Fact → Set ℕ → Type 0) → AreRecorded R alive recorded'
-        → ((j : Inference) → recorded' j → recorded j ⊎ (j.maker ≡ Some slot)) → IsWaitingSound R recorded' waits
-        → ((j : Inference) (ms : List (Set ℕ)) (E : Set ℕ) → recorded' j → j.maker ≡ Some slot → AreChosen kept E j.from ms → HasMaker j.maker E → IsDue kept pending j.to E ⊎ SomeWaits (waits j) j.from ms)
-        → IsPropagating R slot alive kept recorded' pending waits
+        (part : List Instance) → R slot ≡ Some (Part part) → (recorded' : RecordedInference → Type 0) (waits : RecordedInference → Fact → Set ℕ → Type 0) → AreRecorded R met All recorded'
+        → ((j : RecordedInference) → recorded' j → recorded j ⊎ (j.maker ≡ Some slot)) → IsWaitingSound R recorded' waits
+        → ((j : RecordedInference) (ms : List (Set ℕ)) (E : Set ℕ) → recorded' j → j.maker ≡ Some slot → AreChosen kept E j.from ms → HasMaker j.maker E → IsDue kept pending j.to E ⊎ SomeWaits (waits j) j.from ms)
+        → IsPropagating R slot met kept recorded' pending waits
     start_part part named recorded' waits are' new waiting choices = record {
       sound = sound_now;
       before = entry_reaches S R slot more kept settled;
       are = are';
-      lives = lives;
+      were_met = were_met;
       carried = record {
         readings = λ k f E reads inside. elim (decide k) [
           | inl e ↦ absurd (let bad : Some (Part part) ≡ Some (Reading f) = (let P : ℕ → Type 0 = λ i. R i ≡ Some (Reading f) in sym named ∙ subst P e reads) in cc)

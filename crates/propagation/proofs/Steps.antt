@@ -4,8 +4,8 @@ use Rattle.circuit_model.specs.declared.model.Fact.{Fact}
 use Rattle.environment_sets.specs.Lists.{IsIn}
 use Rattle.environment_sets.specs.Sets.{Set, ◌⊆◌}
 use Rattle.circuit_model.specs.Stock.{Stock, IsEnvironment}
-use Rattle.circuit_model.specs.Settled.{IsAntichain}
-use Rattle.propagation.specs.Propagating.{Target, Family, Inference, HasAt, HasMaker, AreChosen, SomeWaits, IsReached, IsDue, IsSound, AreCarriedOut, AgreeWithout, IsPut}
+use Rattle.environment_sets.specs.Families.{IsAntichain}
+use Rattle.propagation.specs.Propagating.{Target, Family, RecordedInference, HasAt, HasMaker, AreChosen, SomeWaits, IsReached, IsDue, IsSound, AreCarriedOut, AgreeWithout, IsPut}
 
 -- a set is put in
 module _ (t : Target) (U : Set ℕ) (old new : Family) (put : IsPut t U old new) where
@@ -106,12 +106,12 @@ SomeWaits-map v w (f ∷ fs) (m ∷ ms) g (inl h) = inl (g f m h)
 SomeWaits-map v w (f ∷ fs) (m ∷ ms) g (inr h) = inr (SomeWaits-map v w fs ms g h)
 
 -- a set was put in: what is kept anew waits at each inference that goes from it
-module _ (S : Stock ℕ) (kept kept' : Family) (recorded : Inference → Type 0) (pending pending' : Family) (waits waits' : Inference → Fact → Set ℕ → Type 0) where
+module _ (S : Stock ℕ) (kept kept' : Family) (recorded : RecordedInference → Type 0) (pending pending' : Family) (waits waits' : RecordedInference → Fact → Set ℕ → Type 0) where
   pub carried_on :
       AreCarriedOut S kept recorded pending waits
       → ((t : Target) (E : Set ℕ) → IsDue kept pending t E → IsDue kept' pending' t E)
-      → ((j : Inference) (f : Fact) (m : Set ℕ) → waits j f m → waits' j f m)
-      → ((j : Inference) (f : Fact) (m : Set ℕ) → recorded j → IsIn j.from f → kept' (Some f) m → kept (Some f) m ⊎ waits' j f m)
+      → ((j : RecordedInference) (f : Fact) (m : Set ℕ) → waits j f m → waits' j f m)
+      → ((j : RecordedInference) (f : Fact) (m : Set ℕ) → recorded j → IsIn j.from f → kept' (Some f) m → kept (Some f) m ⊎ waits' j f m)
       → AreCarriedOut S kept' recorded pending' waits'
   carried_on c on more new = record {
     readings = λ k f E named inside. on (Some f) E (c.readings k f E named inside);
@@ -126,9 +126,9 @@ module _ (S : Stock ℕ) (kept kept' : Family) (recorded : Inference → Type 0)
 
   -- the item that was picked: each choice that has it is to be put in
   pub carried_pick :
-      (picked : Inference) (at : Fact) (chosen : Set ℕ) → AreCarriedOut S kept recorded pending waits
+      (picked : RecordedInference) (at : Fact) (chosen : Set ℕ) → AreCarriedOut S kept recorded pending waits
       → ((t : Target) (E : Set ℕ) → IsDue kept pending t E → IsDue kept pending' t E)
-      → ((j : Inference) (f : Fact) (m : Set ℕ) → waits j f m → waits' j f m ⊎ ((j ≡ picked) × (f ≡ at) × (m ≡ chosen)))
+      → ((j : RecordedInference) (f : Fact) (m : Set ℕ) → waits j f m → waits' j f m ⊎ ((j ≡ picked) × (f ≡ at) × (m ≡ chosen)))
       → ((ms : List (Set ℕ)) (E : Set ℕ) → AreChosen kept E picked.from ms → HasMaker picked.maker E → SomeWaits (λ f m. (f ≡ at) × (m ≡ chosen)) picked.from ms → IsDue kept pending' picked.to E)
       → AreCarriedOut S kept recorded pending' waits'
   carried_pick picked at chosen c on less unions = record {
@@ -137,24 +137,24 @@ module _ (S : Stock ℕ) (kept kept' : Family) (recorded : Inference → Type 0)
       | inl due ↦ inl (on j.to E due)
       | inr w ↦ elim (split j j.from ms w) [
         | inl still ↦ inr still
-        | inr now ↦ inl (let P : Inference → Type 0 = λ i. AreChosen kept E i.from ms → HasMaker i.maker E → SomeWaits (λ f m. (f ≡ at) × (m ≡ chosen)) i.from ms → IsDue kept pending' i.to E in subst P (sym now.0) (unions ms E) are maker now.1)
+        | inr now ↦ inl (let P : RecordedInference → Type 0 = λ i. AreChosen kept E i.from ms → HasMaker i.maker E → SomeWaits (λ f m. (f ≡ at) × (m ≡ chosen)) i.from ms → IsDue kept pending' i.to E in subst P (sym now.0) (unions ms E) are maker now.1)
       ]
     ];
   }
     where
-      split : (j : Inference) (fs : List Fact) (ms : List (Set ℕ)) → SomeWaits (waits j) fs ms → SomeWaits (waits' j) fs ms ⊎ ((j ≡ picked) × SomeWaits (λ f m. (f ≡ at) × (m ≡ chosen)) fs ms)
+      split : (j : RecordedInference) (fs : List Fact) (ms : List (Set ℕ)) → SomeWaits (waits j) fs ms → SomeWaits (waits' j) fs ms ⊎ ((j ≡ picked) × SomeWaits (λ f m. (f ≡ at) × (m ≡ chosen)) fs ms)
       split j [] ms h = absurd h
       split j (f ∷ fs) [] h = absurd h
       split j (f ∷ fs) (m ∷ ms) (inl h) = elim (less j f m h) [ inl w ↦ inl (inl w) | inr e ↦ inr (e.0, inl (e.1, e.2)) ]
       split j (f ∷ fs) (m ∷ ms) (inr h) = elim (split j fs ms h) [ inl w ↦ inl (inr w) | inr e ↦ inr (e.0, inr e.1) ]
 
 -- a further inference is recorded: each choice for it waits or is due
-module _ (S : Stock ℕ) (kept : Family) (recorded recorded' : Inference → Type 0) (pending pending' : Family) (waits waits' : Inference → Fact → Set ℕ → Type 0) where
+module _ (S : Stock ℕ) (kept : Family) (recorded recorded' : RecordedInference → Type 0) (pending pending' : Family) (waits waits' : RecordedInference → Fact → Set ℕ → Type 0) where
   pub carried_note :
-      (further : Inference) → AreCarriedOut S kept recorded pending waits
-      → ((j : Inference) → recorded' j → recorded j ⊎ (j ≡ further))
+      (further : RecordedInference) → AreCarriedOut S kept recorded pending waits
+      → ((j : RecordedInference) → recorded' j → recorded j ⊎ (j ≡ further))
       → ((t : Target) (E : Set ℕ) → IsDue kept pending t E → IsDue kept pending' t E)
-      → ((j : Inference) (f : Fact) (m : Set ℕ) → waits j f m → waits' j f m)
+      → ((j : RecordedInference) (f : Fact) (m : Set ℕ) → waits j f m → waits' j f m)
       → ((ms : List (Set ℕ)) (E : Set ℕ) → AreChosen kept E further.from ms → HasMaker further.maker E → IsDue kept pending' further.to E ⊎ SomeWaits (waits' further) further.from ms)
       → AreCarriedOut S kept recorded' pending' waits'
   carried_note further c one on more new = record {
@@ -164,6 +164,6 @@ module _ (S : Stock ℕ) (kept : Family) (recorded recorded' : Inference → Typ
         | inl due ↦ inl (on j.to E due)
         | inr w ↦ inr (SomeWaits-map (waits j) (waits' j) j.from ms (more j) w)
       ]
-      | inr e ↦ let P : Inference → Type 0 = λ i. AreChosen kept E i.from ms → HasMaker i.maker E → IsDue kept pending' i.to E ⊎ SomeWaits (waits' i) i.from ms in subst P (sym e) (new ms E) are maker
+      | inr e ↦ let P : RecordedInference → Type 0 = λ i. AreChosen kept E i.from ms → HasMaker i.maker E → IsDue kept pending' i.to E ⊎ SomeWaits (waits' i) i.from ms in subst P (sym e) (new ms E) are maker
     ];
   }

@@ -3,6 +3,7 @@ use Rattle.std.proofs.Common.{◌≡◌, ℕ, zero, suc, ◌+◌, ◌^◌, ◌�
 use Rattle.std.proofs.lemmas.Bool.Decides.{nat_tests}
 use mathlib.Core.Path.{fun_ext}
 use Rattle.circuit_model.specs.Closure.{fact}
+use Rattle.environment_sets.specs.declared.environment.TheConstants.{SLOTS}
 use Rattle.environment_sets.specs.Sets.{Set, IsBelow, no_elements}
 use Rattle.propagation.specs.Propagating.{Target}
 use Rattle.propagation.specs.Uncovered.{total, with, over_sets, gap, TargetFits, uncovered}
@@ -68,27 +69,27 @@ module _ (old new : Target → Set ℕ → Bool) (stays : (t : Target) (E : Set 
   gap_less : (t : Target) (E : Set ℕ) → IsFalse (old t E) → IsTrue (new t E) → gap new t E < gap old t E
   gap_less t E out is = rw (out, is) (omega arith)
 
-  sets_le : (t : Target) → over_sets 256 (gap new t) no_elements ≤ over_sets 256 (gap old t) no_elements
-  sets_le t = over_sets_le 256 (gap new t) (gap old t) (gap_le t) no_elements
+  sets_le : (t : Target) → over_sets SLOTS (gap new t) no_elements ≤ over_sets SLOTS (gap old t) no_elements
+  sets_le t = over_sets_le SLOTS (gap new t) (gap old t) (gap_le t) no_elements
 
-  sets_less : (t : Target) (E : Set ℕ) → IsBelow 256 E → IsFalse (old t E) → IsTrue (new t E) → over_sets 256 (gap new t) no_elements < over_sets 256 (gap old t) no_elements
-  sets_less t E low out is = over_sets_less 256 (gap new t) (gap old t) (gap_le t) no_elements E (λ k h. refl) (λ k h. not_in k h (E k) refl) (gap_less t E out is)
+  sets_less : (t : Target) (E : Set ℕ) → IsBelow SLOTS E → IsFalse (old t E) → IsTrue (new t E) → over_sets SLOTS (gap new t) no_elements < over_sets SLOTS (gap old t) no_elements
+  sets_less t E low out is = over_sets_less SLOTS (gap new t) (gap old t) (gap_le t) no_elements E (λ k h. refl) (λ k h. not_in k h (E k) refl) (gap_less t E out is)
     where
-      not_in : (k : ℕ) → 256 ≤ k → (b : Bool) → E k ≡ b → E k ≡ false
-      not_in k h true e = absurd (let lower : k < 256 = low k e in omega arith)
+      not_in : (k : ℕ) → SLOTS ≤ k → (b : Bool) → E k ≡ b → E k ≡ false
+      not_in k h true e = absurd (let lower : k < SLOTS = low k e in omega arith)
       not_in k h false e = e
 
   -- an environment that is put in where it was not covered leaves fewer
-  pub uncovered_less : (t : Target) (E : Set ℕ) → TargetFits t → IsBelow 256 E → IsFalse (old t E) → IsTrue (new t E) → uncovered new < uncovered old
+  pub uncovered_less : (t : Target) (E : Set ℕ) → TargetFits t → IsBelow SLOTS E → IsFalse (old t E) → IsTrue (new t E) → uncovered new < uncovered old
   unfolding uncovered
   uncovered_less None E fits low out is =
-      omega (arith, sets_less None E low out is, total_le (2 ^ 16) (λ net. total (2 ^ 8) (λ cycle. total (2 ^ 64) (λ value. over_sets 256 (gap new (Some (fact (record { net = net; cycle = cycle }) value))) no_elements))) (λ net. total (2 ^ 8) (λ cycle. total (2 ^ 64) (λ value. over_sets 256 (gap old (Some (fact (record { net = net; cycle = cycle }) value))) no_elements))) (λ net. total_le (2 ^ 8) _ _ (λ cycle. total_le (2 ^ 64) _ _ (λ value. sets_le (Some (fact (record { net = net; cycle = cycle }) value))))))
+      omega (arith, sets_less None E low out is, total_le (2 ^ 16) (λ net. total (2 ^ 8) (λ cycle. total (2 ^ 64) (λ value. over_sets SLOTS (gap new (Some (fact (record { net = net; cycle = cycle }) value))) no_elements))) (λ net. total (2 ^ 8) (λ cycle. total (2 ^ 64) (λ value. over_sets SLOTS (gap old (Some (fact (record { net = net; cycle = cycle }) value))) no_elements))) (λ net. total_le (2 ^ 8) _ _ (λ cycle. total_le (2 ^ 64) _ _ (λ value. sets_le (Some (fact (record { net = net; cycle = cycle }) value))))))
   uncovered_less (Some f) E fits low out is =
       omega (
         arith,
         sets_le None,
-        total_less (2 ^ 16) (λ net. total (2 ^ 8) (λ cycle. total (2 ^ 64) (λ value. over_sets 256 (gap new (Some (fact (record { net = net; cycle = cycle }) value))) no_elements))) (λ net. total (2 ^ 8) (λ cycle. total (2 ^ 64) (λ value. over_sets 256 (gap old (Some (fact (record { net = net; cycle = cycle }) value))) no_elements))) (λ net. total_le (2 ^ 8) _ _ (λ cycle. total_le (2 ^ 64) _ _ (λ value. sets_le (Some (fact (record { net = net; cycle = cycle }) value)))))
-            f.cell.net fits.net (total_less (2 ^ 8) (λ cycle. total (2 ^ 64) (λ value. over_sets 256 (gap new (Some (fact (record { net = f.cell.net; cycle = cycle }) value))) no_elements)) (λ cycle. total (2 ^ 64) (λ value. over_sets 256 (gap old (Some (fact (record { net = f.cell.net; cycle = cycle }) value))) no_elements)) (λ cycle. total_le (2 ^ 64) _ _ (λ value. sets_le (Some (fact (record { net = f.cell.net; cycle = cycle }) value))))
-            f.cell.cycle fits.cycle (total_less (2 ^ 64) (λ value. over_sets 256 (gap new (Some (fact f.cell value))) no_elements) (λ value. over_sets 256 (gap old (Some (fact f.cell value))) no_elements) (λ value. sets_le (Some (fact f.cell value)))
+        total_less (2 ^ 16) (λ net. total (2 ^ 8) (λ cycle. total (2 ^ 64) (λ value. over_sets SLOTS (gap new (Some (fact (record { net = net; cycle = cycle }) value))) no_elements))) (λ net. total (2 ^ 8) (λ cycle. total (2 ^ 64) (λ value. over_sets SLOTS (gap old (Some (fact (record { net = net; cycle = cycle }) value))) no_elements))) (λ net. total_le (2 ^ 8) _ _ (λ cycle. total_le (2 ^ 64) _ _ (λ value. sets_le (Some (fact (record { net = net; cycle = cycle }) value)))))
+            f.cell.net fits.net (total_less (2 ^ 8) (λ cycle. total (2 ^ 64) (λ value. over_sets SLOTS (gap new (Some (fact (record { net = f.cell.net; cycle = cycle }) value))) no_elements)) (λ cycle. total (2 ^ 64) (λ value. over_sets SLOTS (gap old (Some (fact (record { net = f.cell.net; cycle = cycle }) value))) no_elements)) (λ cycle. total_le (2 ^ 64) _ _ (λ value. sets_le (Some (fact (record { net = f.cell.net; cycle = cycle }) value))))
+            f.cell.cycle fits.cycle (total_less (2 ^ 64) (λ value. over_sets SLOTS (gap new (Some (fact f.cell value))) no_elements) (λ value. over_sets SLOTS (gap old (Some (fact f.cell value))) no_elements) (λ value. sets_le (Some (fact f.cell value)))
             f.value fits.value (sets_less (Some f) E low out is))),
       )

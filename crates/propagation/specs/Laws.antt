@@ -1,6 +1,7 @@
 -- Laws of bringing labels up to date.
 use Rattle.std.specs.Prelude.{ℕ, ◌<◌, Bool, IsTrue, IsFalse, List, Option}
 use Rattle.circuit_model.specs.declared.model.Fact.{Fact}
+use Rattle.environment_sets.specs.declared.environment.TheConstants.{SLOTS}
 use Rattle.environment_sets.specs.Sets.{Set, IsBelow}
 use Rattle.environment_sets.specs.Lists.{IsIn}
 use Rattle.circuit_model.specs.Stock.{Stock, Has}
@@ -15,5 +16,5 @@ InferencesAreSound =
 -- what was covered still is, and one environment more: fewer are not
 abbrev pub UncoveredPairsFall : Type 0
 UncoveredPairsFall =
-    (old new : Target → Set ℕ → Bool) → ((t : Target) (E : Set ℕ) → IsTrue (old t E) → IsTrue (new t E)) → (t : Target) (E : Set ℕ) → TargetFits t → IsBelow 256 E → IsFalse (old t E)
+    (old new : Target → Set ℕ → Bool) → ((t : Target) (E : Set ℕ) → IsTrue (old t E) → IsTrue (new t E)) → (t : Target) (E : Set ℕ) → TargetFits t → IsBelow SLOTS E → IsFalse (old t E)
     → IsTrue (new t E) → uncovered new < uncovered old

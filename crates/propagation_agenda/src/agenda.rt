@@ -1,13 +1,9 @@
 // A list from which any place is taken.
 ghost use Rattle.std.specs.Prelude.{◌≡◌, ◌<◌, ◌↔◌, length, Some, ◌++◌, ◌∷◌, [], IsTrue, OnOk, OnErr, slice_get, remove};
 
-use std::alloc::Global;
+use std::alloc::{AllocError, Global};
 use std::collections::VecDeque;
 use std::marker::Model;
-
-/// Memory ran out.
-#[derive(Clone, Copy, Debug, PartialEq, Eq)]
-pub struct OutOfMemory;
 
 /// What waits, in the order in which it came. Any place may be taken next; to take place 0 moves nothing.
 #[derive(Drop)]
@@ -34,14 +30,12 @@ impl<T: Copy> Agenda<T> {
     }
 
     /// Puts the item behind all that wait. After an error the same items wait.
-    pub fn push(&mut self, item: T) -> Result<(), OutOfMemory>
+    pub fn push(&mut self, item: T) -> Result<(), AllocError>
         ensures ok { OnOk result (self.new ≡ self.old ++ item ∷ []) }
         ensures err { OnErr result (self.new ≡ self.old) }
     {
-        match self.items.push_back(item) {
-            Ok(()) => Ok(()),
-            Err(_) => Err(OutOfMemory),
-        }
+        self.items.push_back(item)?;
+        Ok(())
     }
 
     /// Takes the item at a place, counted from 0. The others stay in their order.

@@ -3,8 +3,6 @@
 
 mod agenda;
 mod picker;
-#[cfg(test)]
-mod tests;
 
-pub use agenda::{Agenda, OutOfMemory};
+pub use agenda::Agenda;
 pub use picker::{Oldest, Picker};

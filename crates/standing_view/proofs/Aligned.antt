@@ -3,36 +3,6 @@ use Rattle.std.proofs.Common.{◌≡◌, ◌⊎◌, inl, inr, Bool, true, false,
 use Rattle.environment_sets.specs.Lists.{IsIn, AreDistinct}
 use Rattle.standing_view.specs.View.{beside}
 
-module _ {X : Type 0} where
-  pub IsIn-left : (xs ys : List X) (x : X) → IsIn xs x → IsIn (xs ++ ys) x
-  IsIn-left [] ys x h = absurd h
-  IsIn-left (y ∷ xs) ys x (inl e) = inl e
-  IsIn-left (y ∷ xs) ys x (inr h) = inr (IsIn-left xs ys x h)
-
-  pub IsIn-right : (xs ys : List X) (x : X) → IsIn ys x → IsIn (xs ++ ys) x
-  IsIn-right [] ys x h = h
-  IsIn-right (y ∷ xs) ys x h = inr (IsIn-right xs ys x h)
-
-  -- what stood in a list stands there with one more element in it
-  pub IsIn-kept : (xs ys : List X) (z x : X) → IsIn (xs ++ ys) x → IsIn ((xs ++ z ∷ []) ++ ys) x
-  IsIn-kept [] ys z x h = inr h
-  IsIn-kept (y ∷ xs) ys z x (inl e) = inl e
-  IsIn-kept (y ∷ xs) ys z x (inr h) = inr (IsIn-kept xs ys z x h)
-
-  pub IsIn-there : (xs ys : List X) (z : X) → IsIn ((xs ++ z ∷ []) ++ ys) z
-  IsIn-there [] ys z = inl refl
-  IsIn-there (y ∷ xs) ys z = inr (IsIn-there xs ys z)
-
-module _ {X Y : Type 0} where
-  pub map_alike : (f g : X → Y) (xs : List X) → ((x : X) → IsIn xs x → f x ≡ g x) → map f xs ≡ map g xs
-  map_alike f g [] same = refl
-  map_alike f g (x ∷ xs) same = ap₂ (λ (y : Y) (ys : List Y). y ∷ ys) (same x (inl refl)) (map_alike f g xs (λ y h. same y (inr h)))
-
-  pub IsIn-along : (f : X → Y) (xs : List X) (x : X) → IsIn xs x → IsIn (map f xs) (f x)
-  IsIn-along f [] x h = absurd h
-  IsIn-along f (y ∷ xs) x (inl e) = inl (ap f e)
-  IsIn-along f (y ∷ xs) x (inr h) = inr (IsIn-along f xs x h)
-
 heads_alike : {X : Type 0} {x y : X} {xs ys : List X} → x ∷ xs ≡ y ∷ ys → x ≡ y
 heads_alike e = cc
 

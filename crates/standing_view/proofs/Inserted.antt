@@ -7,12 +7,11 @@ use Rattle.std.proofs.lemmas.List.{append_assoc, map-append, take-map, drop-map,
 use Rattle.circuit_model.specs.declared.model.Cell.{Cell}
 use Rattle.circuit_model.specs.declared.model.Fact.{Fact}
 use Rattle.circuit_model.specs.Present.{is_cell, is_cell_before, reading_in, with_reading}
-use Rattle.circuit_model.proofs.Presents.{IsIn-more, AreDistinct-more}
 use Rattle.environment_sets.specs.Lists.{IsIn}
 use Rattle.environment_sets.specs.Orders.{IsOrder}
+use Rattle.environment_sets.proofs.Membership.{IsIn-more, IsIn-still, IsIn-there, AreDistinct-more}
 use Rattle.standing_view.specs.Standing.{AreInOrder, place_among}
-use Rattle.standing_view.proofs.Aligned.{IsIn-kept, IsIn-there}
-use Rattle.standing_view.proofs.Places.{same_cell, cell_itself}
+use Rattle.circuit_model.proofs.Cells.{same_cell, cell_itself, comes_after, before_trans}
 
 module _ {X : Type 0} where
   -- between the two pieces of the second list
@@ -44,24 +43,17 @@ module _ (n : ℕ) where
 
 module _ {X : Type 0} (xs ys : List X) (i : ℕ) (z : X) where
   pub kept_inserted : (x : X) → IsIn (xs ++ ys) x → IsIn (xs ++ insert ys i z) x
-  kept_inserted x h = subst (λ (zs : List X). IsIn zs x) (sym (in_between xs ys i z)) (IsIn-kept (xs ++ take i ys) (drop i ys) z x (subst (λ (zs : List X). IsIn zs x) (pieces xs ys i) h))
+  kept_inserted x h = subst (λ (zs : List X). IsIn zs x) (sym (in_between xs ys i z)) (IsIn-still (xs ++ take i ys) (drop i ys) z x (subst (λ (zs : List X). IsIn zs x) (pieces xs ys i) h))
 
   pub there_inserted : IsIn (xs ++ insert ys i z) z
   there_inserted = subst (λ (zs : List X). IsIn zs z) (sym (in_between xs ys i z)) (IsIn-there (xs ++ take i ys) (drop i ys) z)
 
-  in_inserted : (x : X) → IsIn (xs ++ insert ys i z) x → (z ≡ x) ⊎ IsIn (xs ++ ys) x
+  pub in_inserted : (x : X) → IsIn (xs ++ insert ys i z) x → (z ≡ x) ⊎ IsIn (xs ++ ys) x
   in_inserted x h =
       elim (IsIn-more (xs ++ take i ys) (drop i ys) z x (subst (λ (zs : List X). IsIn zs x) (in_between xs ys i z) h)) as (λ _. (z ≡ x) ⊎ IsIn (xs ++ ys) x) [
         | inl e ↦ inl e
         | inr l ↦ inr (subst (λ (zs : List X). IsIn zs x) (sym (pieces xs ys i)) l)
       ]
-
-before_before : (c d e : Cell) → is_cell_before c d ≡ true → is_cell_before d e ≡ true → is_cell_before c e ≡ true
-before_before c d e a b = grind (arith, nat_tests)
-
--- of two cells one comes first
-comes_after : (c d : Cell) → is_cell d c ≡ false → is_cell_before c d ≡ false → is_cell_before d c ≡ true
-comes_after c d a b = grind (arith, nat_tests)
 
 other_cell : (c d : Cell) → (d ≡ c → ⊥) → is_cell d c ≡ false
 other_cell c d ne = elim (is_cell d c) as (λ b. is_cell d c ≡ b → is_cell d c ≡ false) [ true ↦ λ e. absurd (ne (same_cell d c e)) | false ↦ λ e. e ] refl
@@ -74,7 +66,7 @@ rising_inserted c (d ∷ cells) new h =
     (λ first. (
       (λ y at. elim at as (λ _. IsTrue (is_cell_before c y)) [
         | inl e ↦ subst (λ (z : Cell). IsTrue (is_cell_before c z)) e first
-        | inr later ↦ before_before c d y first (h.0 y later)
+        | inr later ↦ before_trans c d y first (h.0 y later)
       ]),
       h,
     ))

@@ -4,6 +4,8 @@ pub mod Named
 pub mod Orders
 pub mod Inserted
 pub mod Growing
+pub mod Removed
+pub mod Parked
 pub mod Room
 pub mod Masks
 pub mod Kept

@@ -1,34 +1,38 @@
--- Environments of lists of slots.
-use Rattle.std.proofs.Common.{◌≡◌, ℕ, zero, suc, ◌+◌, ◌<◌, ◌≤◌, inl, inr, Bool, true, false, ◌||◌, ◌==◌, List, [], ◌∷◌, length, drop, get_or, refl, sym, ap, ◌∙◌, arith}
-use Rattle.std.proofs.Math.Path.{fun_ext}
-use Rattle.std.proofs.lemmas.List.{drop_more, drop_all}
-use Rattle.environment_sets.specs.Sets.{Set, only, ◌∪◌}
+-- The mask with one slot more.
+use Rattle.std.proofs.Common.{◌≡◌, ℕ, ◌⊎◌, inl, inr, IsTrue, List}
+use Rattle.std.proofs.lemmas.Bool.{or_cases, or_left, or_right}
+use Rattle.circuit_model.specs.declared.model.Cell.{Cell}
+use Rattle.circuit_model.proofs.Settled.{same_set}
+use Rattle.environment_sets.specs.Sets.{only, ◌∪◌}
 use Rattle.environment_sets.specs.Lists.{IsIn}
-use Rattle.standing_view.specs.Standing.{is_among}
+use Rattle.environment_sets.proofs.Membership.{IsIn-more, IsIn-still, IsIn-there}
+use Rattle.standing_view.specs.Standing.{Stands, is_among, mask_of, order_of, place_among, with_part_at, with_reading_at}
+use Rattle.standing_view.proofs.Inserted.{in_inserted, kept_inserted, there_inserted}
+use Rattle.standing_view.proofs.Places.{same_number, itself, among_listed, listed_among}
 
-pub IsIn-read : (xs : List ℕ) (i : ℕ) → i < length xs → IsIn xs (get_or xs i 0)
-IsIn-read [] i low = absurd (omega arith)
-IsIn-read (x ∷ xs) zero low = inl refl
-IsIn-read (x ∷ xs) (suc i) low = inr (IsIn-read xs i (omega arith))
+-- a list with what another has, and one number more
+among_more : (xs ys : List ℕ) (z : ℕ) → IsIn ys z → ((k : ℕ) → IsIn xs k → IsIn ys k) → ((k : ℕ) → IsIn ys k → (z ≡ k) ⊎ IsIn xs k) → is_among xs ∪ only z ≡ is_among ys
+among_more xs ys z there kept from = same_set (is_among xs ∪ only z) (is_among ys)
+    (λ k h. elim (or_cases (is_among xs k) (only z k) h) as (λ _. IsTrue (is_among ys k)) [
+      | inl old ↦ listed_among ys k (kept k (among_listed xs k old))
+      | inr new ↦ listed_among ys k (at k (same_number k z new))
+    ])
+    (λ k h. elim (from k (among_listed ys k h)) as (λ _. IsTrue ((is_among xs ∪ only z) k)) [
+      | inl e ↦ or_right (is_among xs k) (only z k) (is_only k e)
+      | inr l ↦ or_left (is_among xs k) (only z k) (listed_among xs k l)
+    ])
+  where
+    at : (k : ℕ) → k ≡ z → IsIn ys k
+    at k e = rw e there
 
-or_assoc : (a b c : Bool) → ((a || b) || c) ≡ (a || (b || c))
-or_assoc true b c = refl
-or_assoc false b c = refl
+    is_only : (k : ℕ) → z ≡ k → IsTrue (only z k)
+    is_only k e = rw (← e) (itself z)
 
-or_false : (a : Bool) → (a || false) ≡ a
-or_false true = refl
-or_false false = refl
+module _ (st : Stands) (slot : ℕ) where
+  pub part_among : mask_of st ∪ only slot ≡ mask_of (with_part_at slot st)
+  part_among = among_more (order_of st) (order_of (with_part_at slot st)) slot (IsIn-there st.parts st.slots slot) (λ k h. IsIn-still st.parts st.slots slot k h) (λ k h. IsIn-more st.parts st.slots slot k h)
 
--- one slot of the list more
-pub among_more : (xs : List ℕ) (i : ℕ) (E F G : Set ℕ) → i < length xs → F ≡ E ∪ only (get_or xs i 0) → E ∪ is_among (drop i xs) ≡ G → F ∪ is_among (drop (i + 1) xs) ≡ G
-among_more xs i E F G low more all =
-    let x : ℕ = get_or xs i 0 in
-    let rest : List ℕ = drop (i + 1) xs in
-    let moved : (E ∪ only x) ∪ is_among rest ≡ E ∪ is_among (x ∷ rest) = fun_ext (λ (k : ℕ). or_assoc (E k) (k == x) (is_among rest k)) in
-    ap (λ (H : Set ℕ). H ∪ is_among rest) more ∙ (moved ∙ (ap (λ (ys : List ℕ). E ∪ is_among ys) (sym (drop_more xs i 0 low)) ∙ all))
-
--- no slot is left
-pub among_all : (xs : List ℕ) (i : ℕ) (E G : Set ℕ) → length xs ≤ i → E ∪ is_among (drop i xs) ≡ G → E ≡ G
-among_all xs i E G high all =
-    let none : E ∪ is_among [] ≡ E = fun_ext (λ (k : ℕ). or_false (E k)) in
-    sym none ∙ (ap (λ (ys : List ℕ). E ∪ is_among ys) (sym (drop_all i xs high)) ∙ all)
+  pub reading_among : (c : Cell) → mask_of st ∪ only slot ≡ mask_of (with_reading_at slot c st)
+  reading_among c =
+      let place : ℕ = place_among c st.cells in
+      among_more (order_of st) (order_of (with_reading_at slot c st)) slot (there_inserted st.parts st.slots place slot) (λ k h. kept_inserted st.parts st.slots place slot k h) (λ k h. in_inserted st.parts st.slots place slot k h)

@@ -12,27 +12,21 @@ use Rattle.circuit_model.specs.declared.model.Assumption.TheVariants.{Part, Read
 use Rattle.circuit_model.specs.declared.present.Component.{Component}
 use Rattle.circuit_model.specs.Closure.{fact}
 use Rattle.circuit_model.specs.Diagnoses.{Place, AtPart, AtCell}
-use Rattle.circuit_model.specs.Present.{Setup, is_cell, reading_in}
+use Rattle.circuit_model.specs.Present.{PresentView, is_cell, reading_in}
 use Rattle.circuit_model.specs.Stock.{Stock, IsEnvironment, within}
-use Rattle.circuit_model.specs.Whole.{stock, everything}
+use Rattle.circuit_model.specs.Whole.{stock, everything, places_in_order, order_of_present}
 use Rattle.circuit_model.specs.Renaming.{passes, along, IsRenaming}
-use Rattle.circuit_model.proofs.Presents.{IsIn-append}
-use Rattle.circuit_model.proofs.Renaming.{renamed_labels, renamed_nogoods}
+use Rattle.circuit_model.proofs.Cells.{same_cell, cell_itself}
+use Rattle.circuit_model.proofs.Renaming.{passes-elim, passes-intro, some_of, is_some_of, renamed_labels, renamed_nogoods}
 use Rattle.circuit_model.proofs.Settled.{same_set}
 use Rattle.environment_sets.specs.Sets.{Set, ◌⊆◌}
 use Rattle.environment_sets.specs.Lists.{IsIn, AreDistinct}
+use Rattle.environment_sets.proofs.Membership.{IsIn-append, IsIn-left, IsIn-right, map-IsIn}
 use Rattle.standing_view.specs.Standing.{Stands, order_of, mask_of}
-use Rattle.standing_view.specs.View.{StandsFor, slot_of, places_in_order, place_of, places, order_of_present}
+use Rattle.standing_view.specs.View.{StandsFor, slot_of, place_of, places}
 use Rattle.standing_view.specs.Laws.{SlotsNameThePresent, SlotsHaveItsLabels, SlotsHaveItsNogoods, IsTheSetOf, EnvironmentsAreSlots, SlotsAreEnvironments, TheMaskIsRemembered, TheMaskIsEverything, FreeSlotsDoNotStand}
-use Rattle.standing_view.proofs.Aligned.{IsIn-left, IsIn-right, IsIn-along, StandBeside, in_first, from_first, from_second, alike_beside, one_alike, all_alike}
-use Rattle.standing_view.proofs.Places.{same_cell, cell_itself, ordered_are_distinct, among_listed, listed_among, length-places, slot_is, slot_stands, place_is, place_stands}
-
-is_some_of : {A : Type 0} (o : Option A) (x : A) → o ≡ Some x → IsSome o
-is_some_of o x e = rw e refl
-
-some_of : {A : Type 0} (o : Option A) → IsSome o → (x : A) × (o ≡ Some x)
-some_of None h = absurd (true≢false (sym h))
-some_of (Some x) h = (x, refl)
+use Rattle.standing_view.proofs.Aligned.{StandBeside, in_first, from_first, from_second, alike_beside, one_alike, all_alike}
+use Rattle.standing_view.proofs.Places.{ordered_are_distinct, among_listed, listed_among, length-places, slot_is, slot_stands, place_is, place_stands}
 
 mapped_some : {A B : Type 0} (f : A → B) (o : Option A) → IsSome (option_map f o) → (x : A) × (o ≡ Some x)
 mapped_some f None h = absurd (true≢false (sym h))
@@ -41,13 +35,6 @@ mapped_some f (Some x) h = (x, refl)
 none_is_not : {A : Type 0} (o : Option A) → o ≡ None → IsSome o → ⊥
 none_is_not None e h = true≢false (sym h)
 none_is_not (Some x) e h = cc
-
-passes_some : {A : Type 0} (p : A → Bool) (o : Option A) → IsTrue (passes p o) → (x : A) × (o ≡ Some x) × IsTrue (p x)
-passes_some p None h = absurd (true≢false (sym h))
-passes_some p (Some x) h = (x, refl, h)
-
-passes_of : {A : Type 0} (p : A → Bool) (o : Option A) (x : A) → o ≡ Some x → IsTrue (p x) → IsTrue (passes p o)
-passes_of p o x e h = rw e h
 
 passes_at : {A : Type 0} (p : A → Bool) (o : Option A) (x : A) → o ≡ Some x → IsTrue (passes p o) → IsTrue (p x)
 passes_at p o x e h = rw e at h
@@ -73,7 +60,7 @@ measured_is [] apart f h = absurd h
 measured_is (g ∷ fs) apart f (inl e) = subst (λ (h : Fact). reading_in (g ∷ fs) h.cell ≡ Some h.value) e (let t : is_cell g.cell g.cell ≡ true = cell_itself g.cell in rw t refl)
 measured_is (g ∷ fs) apart f (inr h) =
     elim (is_cell g.cell f.cell) as (λ b. is_cell g.cell f.cell ≡ b → cond b (Some g.value) (reading_in fs f.cell) ≡ Some f.value) [
-      | true ↦ λ e. absurd (apart.0 f.cell (IsIn-along (λ (f : Fact). f.cell) fs f h) (same_cell g.cell f.cell e))
+      | true ↦ λ e. absurd (apart.0 f.cell (map-IsIn (λ (f : Fact). f.cell) fs f h) (same_cell g.cell f.cell e))
       | false ↦ λ _. measured_is fs apart.1 f h
     ] refl
 
@@ -85,7 +72,7 @@ measured_in (g ∷ fs) c h =
       | false ↦ λ _ h. inr (measured_in fs c h)
     ] refl h
 
-module _ (S : Stock ℕ) (st : Stands) (P : Setup) (r : StandsFor S st P) where
+module _ (S : Stock ℕ) (st : Stands) (P : PresentView) (parked : List Fact) (r : StandsFor S st P parked) where
   pub as_many_parts : length st.parts ≡ length P.parts
   as_many_parts = sym (length-map st.parts S) ∙ (ap (λ xs. length xs) r.components ∙ length-map P.parts (λ (c : Component). Some (Part c.part)))
 
@@ -142,7 +129,7 @@ module _ (S : Stock ℕ) (st : Stands) (P : Setup) (r : StandsFor S st P) where
   place_listed (AtCell c) h =
       let p : (v : ℕ) × (reading_in P.readings c ≡ Some v) = mapped_some (λ (v : ℕ). Reading (fact c v)) (reading_in P.readings c) h in
       let at : IsIn st.cells c = subst (λ (cs : List Cell). IsIn cs c) (sym r.measured) (measured_in P.readings c (is_some_of _ p.0 p.1)) in
-      IsIn-right (map AtPart (range_with_len 0 (length st.parts))) (map AtCell st.cells) (AtCell c) (IsIn-along AtCell st.cells c at)
+      IsIn-right (map AtPart (range_with_len 0 (length st.parts))) (map AtCell st.cells) (AtCell c) (map-IsIn AtCell st.cells c at)
 
   pub slot_for : (m : Place) → IsSome (stock P m) → (k : ℕ) × Beside k m
   slot_for m h = from_second (order_of st) (places_in_order (length st.parts) st.cells) as_long m (place_listed m h)
@@ -179,7 +166,7 @@ module _ (S : Stock ℕ) (st : Stands) (P : Setup) (r : StandsFor S st P) where
 
   places_environment : (E : Set ℕ) → E ⊆ mask_of st → IsEnvironment (stock P) (places st E)
   places_environment E inside m h =
-      let k : (k : ℕ) × (slot_of st m ≡ Some k) × IsTrue (E k) = passes_some E (slot_of st m) h in
+      let k : (k : ℕ) × (slot_of st m ≡ Some k) × IsTrue (E k) = passes-elim E (slot_of st m) h in
       let P : Option Assumption → Type 0 = IsSome in
       subst P (named_alike k.0 m (slot_stands st r.rising k.0 m k.1)) (stands_remembered k.0 (among_listed (order_of st) k.0 (inside k.0 k.2)))
 
@@ -194,27 +181,27 @@ module _ (S : Stock ℕ) (st : Stands) (P : Setup) (r : StandsFor S st P) where
     SlotsFor = along (place_of st) F
 
     for_inside : SlotsFor ⊆ mask_of st
-    for_inside k h = let m : (m : Place) × (place_of st k ≡ Some m) × IsTrue (F m) = passes_some F (place_of st k) h in inside_mask k m.0 (place_stands st k m.0 m.1)
+    for_inside k h = let m : (m : Place) × (place_of st k ≡ Some m) × IsTrue (F m) = passes-elim F (place_of st k) h in inside_mask k m.0 (place_stands st k m.0 m.1)
 
     for_to : places st SlotsFor ⊆ F
     for_to m h =
-        let k : (k : ℕ) × (slot_of st m ≡ Some k) × IsTrue (SlotsFor k) = passes_some SlotsFor (slot_of st m) h in
+        let k : (k : ℕ) × (slot_of st m ≡ Some k) × IsTrue (SlotsFor k) = passes-elim SlotsFor (slot_of st m) h in
         let e : place_of st k.0 ≡ Some m = place_is st r.order.distinct k.0 m (slot_stands st r.rising k.0 m k.1) in
         passes_at F (place_of st k.0) m e k.2
 
     for_from : F ⊆ places st SlotsFor
     for_from m h =
         let k : (k : ℕ) × Beside k m = slot_for m (env m h) in
-        passes_of SlotsFor (slot_of st m) k.0 (slot_is st r.rising k.0 m k.1) (passes_of F (place_of st k.0) m (place_is st r.order.distinct k.0 m k.1) h)
+        passes-intro SlotsFor (slot_of st m) k.0 (slot_is st r.rising k.0 m k.1) (passes-intro F (place_of st k.0) m (place_is st r.order.distinct k.0 m k.1) h)
 
     for_only : (G : Set ℕ) → G ⊆ mask_of st → places st G ≡ F → G ≡ SlotsFor
     for_only G inside same = same_set G SlotsFor
         (λ k h.
         let m : (m : Place) × Beside k m = place_for k (inside k h) in
-        let there : IsTrue (places st G m.0) = passes_of G (slot_of st m.0) k (slot_is st r.rising k m.0 m.1) h in
-        passes_of F (place_of st k) m.0 (place_is st r.order.distinct k m.0 m.1) (subst (λ (H : Set Place). IsTrue (H m.0)) same there))
+        let there : IsTrue (places st G m.0) = passes-intro G (slot_of st m.0) k (slot_is st r.rising k m.0 m.1) h in
+        passes-intro F (place_of st k) m.0 (place_is st r.order.distinct k m.0 m.1) (subst (λ (H : Set Place). IsTrue (H m.0)) same there))
         (λ k h.
-        let m : (m : Place) × (place_of st k ≡ Some m) × IsTrue (F m) = passes_some F (place_of st k) h in
+        let m : (m : Place) × (place_of st k ≡ Some m) × IsTrue (F m) = passes-elim F (place_of st k) h in
         let there : IsTrue (places st G m.0) = subst (λ (H : Set Place). IsTrue (H m.0)) (sym same) m.2 in
         passes_at G (slot_of st m.0) k (slot_is st r.rising k m.0 (place_stands st k m.0 m.1)) there)
 
@@ -222,37 +209,37 @@ module _ (S : Stock ℕ) (st : Stands) (P : Setup) (r : StandsFor S st P) where
     the_slots = (SlotsFor, record { inside = for_inside; is = same_set (places st SlotsFor) F for_to for_from; only = for_only })
 
 pub environments_are_slots : EnvironmentsAreSlots
-environments_are_slots S st P r F env = the_slots S st P r F env
+environments_are_slots S st P parked r F env = the_slots S st P parked r F env
 
 pub slots_name_the_present : SlotsNameThePresent
-slots_name_the_present S st P r = names S st P r
+slots_name_the_present S st P parked r = names S st P parked r
 
 pub slots_have_its_labels : SlotsHaveItsLabels
-slots_have_its_labels S st P r f E inside = renamed_labels ℕ Place (within (mask_of st) S) (stock P) (place_of st) (slot_of st) (names S st P r) f E (inside_environment S st P r E inside)
+slots_have_its_labels S st P parked r f E inside = renamed_labels ℕ Place (within (mask_of st) S) (stock P) (place_of st) (slot_of st) (names S st P parked r) f E (inside_environment S st P parked r E inside)
 
 pub slots_have_its_nogoods : SlotsHaveItsNogoods
-slots_have_its_nogoods S st P r E inside = renamed_nogoods ℕ Place (within (mask_of st) S) (stock P) (place_of st) (slot_of st) (names S st P r) E (inside_environment S st P r E inside)
+slots_have_its_nogoods S st P parked r E inside = renamed_nogoods ℕ Place (within (mask_of st) S) (stock P) (place_of st) (slot_of st) (names S st P parked r) E (inside_environment S st P parked r E inside)
 
 pub slots_are_environments : SlotsAreEnvironments
-slots_are_environments S st P r E inside = places_environment S st P r E inside
+slots_are_environments S st P parked r E inside = places_environment S st P parked r E inside
 
 pub the_mask_is_remembered : TheMaskIsRemembered
-the_mask_is_remembered S st P r k h = stands_remembered S st P r k (among_listed (order_of st) k h)
+the_mask_is_remembered S st P parked r k h = stands_remembered S st P parked r k (among_listed (order_of st) k h)
 
 pub the_mask_is_everything : TheMaskIsEverything
-the_mask_is_everything S st P r = mask_places S st P r
+the_mask_is_everything S st P parked r = mask_places S st P parked r
 
 pub free_slots_do_not_stand : FreeSlotsDoNotStand
-free_slots_do_not_stand S st P r k free h = none_is_not (S k) free (stands_remembered S st P r k h)
+free_slots_do_not_stand S st P parked r k free h = none_is_not (S k) free (stands_remembered S st P parked r k h)
 
-module _ (S : Stock ℕ) (st : Stands) (P : Setup) (r : StandsFor S st P) where
+module _ (S : Stock ℕ) (st : Stands) (P : PresentView) (parked : List Fact) (r : StandsFor S st P parked) where
   -- a place has what its slot has
   pub place_has : (E : Set ℕ) (k : ℕ) (m : Place) → StandBeside (order_of st) (places_in_order (length st.parts) st.cells) k m → E k ≡ places st E m
   place_has E k m h = let e : slot_of st m ≡ Some k = slot_is st r.rising k m h in rw e refl
 
   pub order_is : places_in_order (length st.parts) st.cells ≡ order_of_present P
-  order_is = ap₂ places_in_order (as_many_parts S st P r) r.measured
+  order_is = ap₂ places_in_order (as_many_parts S st P parked r) r.measured
 
   -- element for element, the order is in the set as the places are
   pub same_answers : (E : Set ℕ) → map E (order_of st) ≡ map (places st E) (order_of_present P)
-  same_answers E = all_alike E (places st E) (order_of st) (places_in_order (length st.parts) st.cells) (as_long S st P r) (place_has E) ∙ ap (λ (ms : List Place). map (places st E) ms) order_is
+  same_answers E = all_alike E (places st E) (order_of st) (places_in_order (length st.parts) st.cells) (as_long S st P parked r) (place_has E) ∙ ap (λ (ms : List Place). map (places st E) ms) order_is

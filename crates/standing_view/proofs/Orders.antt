@@ -5,7 +5,8 @@ use Rattle.std.proofs.lemmas.List.Sums.{sum_by-cons}
 use Rattle.environment_sets.specs.Sets.{Set}
 use Rattle.environment_sets.specs.Orders.{first_of_both, by_first, compare_in}
 use Rattle.standing_view.specs.Standing.{order_of}
-use Rattle.standing_view.specs.View.{places, order_of_present}
+use Rattle.circuit_model.specs.Whole.{order_of_present}
+use Rattle.standing_view.specs.View.{places}
 use Rattle.standing_view.specs.Laws.{TheOrderIsThePresents}
 use Rattle.standing_view.proofs.Named.{same_answers}
 
@@ -42,7 +43,7 @@ module _ {N M : Type 0} (E G : Set N) (F H : Set M) where
       ap₂ first_of_both sizes (same_first E F G H xs ys same others)
 
 pub the_order_is_the_presents : TheOrderIsThePresents
-the_order_is_the_presents S st P r E F =
+the_order_is_the_presents S st P parked r E F =
     let same : compare_in (order_of st) E F ≡ compare_in (order_of_present P) (places st E) (places st F) =
-    same_comparison E F (places st E) (places st F) (order_of st) (order_of_present P) (same_answers S st P r E) (same_answers S st P r F) in
+    same_comparison E F (places st E) (places st F) (order_of st) (order_of_present P) (same_answers S st P parked r E) (same_answers S st P parked r F) in
     (λ (e : compare_in (order_of st) E F ≡ Less). sym same ∙ e, λ (e : compare_in (order_of_present P) (places st E) (places st F) ≡ Less). same ∙ e)

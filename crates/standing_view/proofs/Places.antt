@@ -1,48 +1,31 @@
 -- The slots that stand, and the places of a present.
-use Rattle.std.proofs.Common.{◌≡◌, ℕ, zero, suc, ◌+◌, ◌⊎◌, inl, inr, Bool, true, false, ◌||◌, ◌==◌, IsTrue, true≢false, List, [], ◌∷◌, length, map, Some, refl, sym, ap, ap₂, subst, ◌∙◌, arith, zero-add}
+use Rattle.std.proofs.Common.{◌≡◌, ℕ, zero, suc, ◌+◌, inl, inr, true, ◌==◌, IsTrue, true≢false, List, [], ◌∷◌, length, map, Some, refl, sym, ap, ap₂, subst, ◌∙◌, arith, zero-add}
 use Rattle.std.specs.List.{slice_get, range_with_len}
+use Rattle.std.proofs.lemmas.Bool.{or_cases, or_right}
 use Rattle.std.proofs.lemmas.Bool.Decides.{nat_tests}
 use Rattle.std.proofs.lemmas.List.{length-map, length-append}
 use Rattle.std.proofs.lemmas.List.FromFn.{length-map-range_with_len}
 use Rattle.circuit_model.specs.declared.model.Cell.{Cell}
+use Rattle.circuit_model.proofs.Cells.{same_cell, cell_itself, not_before_itself}
 use Rattle.circuit_model.specs.Diagnoses.{Place, AtPart, AtCell}
 use Rattle.circuit_model.specs.Present.{is_cell, is_cell_before}
 use Rattle.environment_sets.specs.Lists.{IsIn, AreDistinct}
 use Rattle.standing_view.specs.Standing.{Stands, order_of, is_among, AreInOrder}
-use Rattle.standing_view.specs.View.{slot_of, places_in_order, place_of}
+use Rattle.circuit_model.specs.Whole.{places_in_order}
+use Rattle.standing_view.specs.View.{slot_of, place_of}
 use Rattle.standing_view.proofs.Aligned.{StandBeside, left_or_right, on_left, on_right, finds, is_found}
 
 pub same_number : (j k : ℕ) → IsTrue (j == k) → j ≡ k
 same_number j k h = grind (arith, nat_tests)
 
-itself : (k : ℕ) → IsTrue (k == k)
+pub itself : (k : ℕ) → IsTrue (k == k)
 itself k = grind (arith, nat_tests)
-
-pub same_cell : (c d : Cell) → is_cell c d ≡ true → c ≡ d
-same_cell c d e =
-    let net : c.net ≡ d.net = grind (arith, nat_tests) in
-    let cycle : c.cycle ≡ d.cycle = grind (arith, nat_tests) in
-    ap₂ (λ (n t : ℕ). let d : Cell = record { net = n; cycle = t } in d) net cycle
-
-pub cell_itself : (c : Cell) → is_cell c c ≡ true
-cell_itself c = grind (arith, nat_tests)
-
-not_before_itself : (c : Cell) → is_cell_before c c ≡ true → ⊥
-not_before_itself c e = grind (arith, nat_tests)
 
 -- cells in order are distinct
 pub ordered_are_distinct : (cells : List Cell) → AreInOrder cells → AreDistinct cells
 ordered_are_distinct [] h = tt
 ordered_are_distinct (c ∷ cells) h =
     ((λ d at e. not_before_itself c (subst (λ (d : Cell). is_cell_before c d ≡ true) (sym e) (h.0 d at))), ordered_are_distinct cells h.1)
-
-or_cases : (a b : Bool) → IsTrue (a || b) → IsTrue a ⊎ IsTrue b
-or_cases true b h = inl refl
-or_cases false b h = inr h
-
-or_right : (a b : Bool) → IsTrue b → IsTrue (a || b)
-or_right true b h = refl
-or_right false b h = h
 
 pub among_listed : (xs : List ℕ) (k : ℕ) → IsTrue (is_among xs k) → IsIn xs k
 among_listed [] k h = absurd (true≢false (sym h))

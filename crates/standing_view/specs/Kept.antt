@@ -1,15 +1,19 @@
 -- How what stands is kept.
-use Rattle.std.specs.Prelude.{◌+◌, ◌≤◌, length, take, drop, vec_capacity}
-use Rattle.circuit_model.specs.Present.{MOST_PARTS, MOST_READINGS}
+use Rattle.std.specs.Prelude.{◌≡◌, ◌+◌, ◌≤◌, length, take, drop, vec_capacity}
+use Rattle.circuit_model.specs.declared.limits.TheConstants.{MOST_PARTS, MOST_READINGS}
+use Rattle.environment_sets.specs.Members.{members}
 use Rattle.standing_view.specs.declared.standing.Standing.TheInside.{Inside}
-use Rattle.standing_view.specs.Standing.{Stands, IsStanding}
+use Rattle.standing_view.specs.Standing.{Stands, IsStanding, mask_of}
 
+-- what stands, by the parts of the order
 abbrev pub stands_of : Inside → Stands
 stands_of s = record { parts = take s.parts s.order.items; cells = s.cells.items; slots = drop s.parts s.order.items }
 
--- the parts are the first slots of the order, and there is room for all that may stand
+-- The parts are the first slots of the order, the mask has the slots of the order, and there is room for all that may
+-- stand.
 pub record IsKept (s : Inside) : Type 0 where
   pub standing : IsStanding (stands_of s)
   pub count : s.parts ≤ length s.order.items
+  pub mask : members s.mask ≡ mask_of (stands_of s)
   pub room : MOST_PARTS + MOST_READINGS ≤ vec_capacity s.order
   pub cells_room : MOST_READINGS ≤ vec_capacity s.cells

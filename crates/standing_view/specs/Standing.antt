@@ -1,8 +1,9 @@
 -- The slots of what stands, in order.
 use Rattle.std.specs.Prelude.{◌≡◌, ℕ, suc, ◌≤◌, ◌==◌, if◌then◌else◌, IsTrue, List, [], ◌∷◌, ◌++◌, length}
-use Rattle.std.specs.List.{list_any, insert}
+use Rattle.std.specs.List.{list_any, insert, remove}
 use Rattle.circuit_model.specs.declared.model.Cell.{Cell}
-use Rattle.circuit_model.specs.Present.{MOST_PARTS, MOST_READINGS, is_cell_before}
+use Rattle.circuit_model.specs.Present.{is_cell_before}
+use Rattle.circuit_model.specs.declared.limits.TheConstants.{MOST_PARTS, MOST_READINGS}
 use Rattle.environment_sets.specs.declared.environment.TheConstants.{SLOTS}
 use Rattle.environment_sets.specs.Sets.{Set}
 use Rattle.environment_sets.specs.Lists.{IsRising}
@@ -15,6 +16,7 @@ pub record Stands : Type 0 where
   pub cells : List Cell
   pub slots : List ℕ
 
+-- no component and no measurement
 abbrev pub nothing_stands : Stands
 nothing_stands = record { parts = []; cells = []; slots = [] }
 
@@ -26,6 +28,7 @@ order_of st = st.parts ++ st.slots
 abbrev pub is_among : List ℕ → Set ℕ
 is_among slots = λ k. list_any (λ slot. k == slot) slots
 
+-- all slots that stand
 abbrev pub mask_of : Stands → Set ℕ
 mask_of st = is_among (order_of st)
 
@@ -54,3 +57,7 @@ with_part_at slot st = record st { parts = st.parts ++ slot ∷ [] }
 -- one measurement more, at its cell's place in the order of cells
 abbrev pub with_reading_at : ℕ → Cell → Stands → Stands
 with_reading_at slot c st = let place = place_among c st.cells in record st { cells = insert st.cells place c; slots = insert st.slots place slot }
+
+-- the measurement at the place stands no more
+abbrev pub without_reading_at : ℕ → Stands → Stands
+without_reading_at place st = record st { cells = remove st.cells place; slots = remove st.slots place }

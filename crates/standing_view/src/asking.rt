@@ -5,9 +5,10 @@ ghost use Rattle.std.specs.Option.{ForSome, option_map, option_copied};
 ghost use Rattle.circuit_model.specs.Stock.{IsEnvironment};
 ghost use Rattle.environment_sets.specs.Members.{members};
 ghost use Rattle.environment_sets.specs.Sets.{◌⊆◌};
-ghost use Rattle.inference_search.specs.Slots.{stock};
+ghost use Rattle.assumption_slots.specs.Slots.{stock};
+ghost use Rattle.label_engine.specs.Questions.{values_left};
 ghost use Rattle.standing_view.specs.Standing.{mask_of};
-ghost use Rattle.standing_view.specs.Asking.{GivesNextOfLabel, GivesNextWord, label_left, words_left};
+ghost use Rattle.standing_view.specs.Asking.{GivesNextOfLabel, GivesNextWord, label_left};
 
 use crate::standing::Standing;
 use circuit_model::{Cell, Fact};
@@ -42,7 +43,7 @@ pub fn value_after(
 ) -> Option<u64>
     requires { IsEnvironment (stock engine.now.slots) (mask_of standing.now) }
     ensures next { GivesNextWord engine.now standing.now cell last result }
-    ensures falls { IfSome result (λ v. words_left engine.now standing.now cell (Some v) < words_left engine.now standing.now cell last) }
+    ensures falls { IfSome result (λ v. values_left engine.now.kept cell (mask_of standing.now) (Some v) < values_left engine.now.kept cell (mask_of standing.now) last) }
 {
     let mask = standing.mask();
     engine.values_after(cell, &mask, last)

@@ -1,6 +1,6 @@
 // Laws of what stands for a present.
 
-ghost use Rattle.standing_view.specs.Laws.{SlotsNameThePresent, SlotsHaveItsLabels, SlotsHaveItsNogoods, EnvironmentsAreSlots, SlotsAreEnvironments, TheMaskIsRemembered, TheMaskIsEverything, TheOrderIsThePresents, NothingStandsForNothing, NetsAlterNothing, OneComponentMore, OneMeasurementMore, SomeSlotIsFree, FreeSlotsDoNotStand};
+ghost use Rattle.standing_view.specs.Laws.{SlotsNameThePresent, SlotsHaveItsLabels, SlotsHaveItsNogoods, EnvironmentsAreSlots, SlotsAreEnvironments, TheMaskIsRemembered, TheMaskIsEverything, TheOrderIsThePresents, NothingStandsForNothing, NetsAlterNothing, OneComponentMore, OneMeasurementMore, AReadingIsParked, AParkedReadingStands, AParkedReadingIsForgotten, SomeSlotIsFree, FreeSlotsDoNotStand};
 
 /// The slots that stand and the places of the present name the same assumptions.
 pub fn slots_name_the_present()
@@ -62,7 +62,22 @@ pub fn a_measurement_more_stands()
     ensures { OneMeasurementMore }
 {}
 
-/// What stands for a lawful present leaves a slot free.
+/// A measurement that stands no more is parked.
+pub fn a_reading_is_parked()
+    ensures { AReadingIsParked }
+{}
+
+/// A parked reading stands again.
+pub fn a_parked_reading_stands()
+    ensures { AParkedReadingStands }
+{}
+
+/// A parked reading is forgotten, and nothing else is.
+pub fn a_parked_reading_is_forgotten()
+    ensures { AParkedReadingIsForgotten }
+{}
+
+/// What stands for a lawful present leaves a slot free, beside the parked readings of as many presents as are kept.
 pub fn some_slot_is_free()
     ensures { SomeSlotIsFree }
 {}

@@ -5,14 +5,13 @@ mod asking;
 mod laws;
 mod showing;
 mod standing;
-#[cfg(test)]
-mod tests;
 
 pub use asking::{label_after, value_after};
 pub use laws::{
-    a_component_more_stands, a_measurement_more_stands, environments_are_slots,
-    free_slots_do_not_stand, nets_alter_nothing, nothing_stands_for_nothing,
-    slots_are_environments, slots_have_its_labels, slots_have_its_nogoods, slots_name_the_present,
-    some_slot_is_free, the_mask_is_everything, the_mask_is_remembered, the_order_is_the_presents,
+    a_component_more_stands, a_measurement_more_stands, a_parked_reading_is_forgotten,
+    a_parked_reading_stands, a_reading_is_parked, environments_are_slots, free_slots_do_not_stand,
+    nets_alter_nothing, nothing_stands_for_nothing, slots_are_environments, slots_have_its_labels,
+    slots_have_its_nogoods, slots_name_the_present, some_slot_is_free, the_mask_is_everything,
+    the_mask_is_remembered, the_order_is_the_presents,
 };
 pub use standing::Standing;

@@ -1,12 +1,13 @@
 // The slots of what stands.
 
-ghost use Rattle.std.specs.Prelude.{◌≡◌, ℕ, ◌<◌, ◌≤◌, Some, IfOk, length, slice_get};
-ghost use Rattle.circuit_model.specs.Present.{MOST_PARTS, MOST_READINGS, is_cell_before};
+ghost use Rattle.std.specs.Prelude.{◌≡◌, ◌<◌, ◌≤◌, Some, IfOk, length, slice_get};
+ghost use Rattle.circuit_model.specs.Present.{is_cell_before};
+ghost use Rattle.circuit_model.specs.declared.limits.TheConstants.{MOST_PARTS, MOST_READINGS};
 ghost use Rattle.environment_sets.specs.declared.environment.TheConstants.{SLOTS};
 ghost use Rattle.environment_sets.specs.Members.{members};
 ghost use Rattle.environment_sets.specs.Lists.{IsIn};
 ghost use Rattle.environment_sets.specs.Orders.{IsOrder};
-ghost use Rattle.standing_view.specs.Standing.{nothing_stands, order_of, is_among, mask_of, IsStanding, place_among, with_part_at, with_reading_at};
+ghost use Rattle.standing_view.specs.Standing.{nothing_stands, order_of, mask_of, IsStanding, place_among, with_part_at, with_reading_at};
 
 use circuit_model::Cell;
 use circuit_model::limits::{MOST_PARTS, MOST_READINGS};
@@ -16,7 +17,7 @@ use std::marker::Model;
 
 /// What stands: the slots of the components in order of declaration, then the slots of the standing measurements in
 /// order of their cells. The slots are distinct and below [`SLOTS`](environment_sets::SLOTS), the cells rise, and the
-/// limits of a present are kept. All room is taken by [`open`](Standing::open).
+/// limits of a present are kept. [`open`](Standing::open) takes all room.
 #[derive(Drop)]
 pub struct Standing {
     // of the components, then of the measurements
@@ -25,6 +26,8 @@ pub struct Standing {
     parts: usize,
     // the measured cells, in order
     cells: Vec<Cell>,
+    // all slots of the order
+    mask: Env,
 }
 
 impl Model for Standing {
@@ -48,6 +51,7 @@ impl Standing {
             order: Vec::with_capacity(alloc, MOST_PARTS as usize + MOST_READINGS as usize)?,
             parts: 0,
             cells: Vec::with_capacity(alloc, MOST_READINGS as usize)?,
+            mask: Env::empty(),
         })
     }
 
@@ -55,7 +59,7 @@ impl Standing {
     pub fn mask(&self) -> Env
         ensures { members result ≡ mask_of self.now }
     {
-        environment_of(&self.order)
+        self.mask
     }
 
     /// The slots of the components, then those of the measurements.
@@ -95,6 +99,7 @@ impl Standing {
             Err(_) => unreachable!(),
         }
         self.parts += 1;
+        self.mask = self.mask.with(slot);
     }
 
     /// The slot of one measurement more stands, at its cell's place in the order of cells.
@@ -114,19 +119,8 @@ impl Standing {
             Ok(()) => (),
             Err(_) => unreachable!(),
         }
+        self.mask = self.mask.with(slot);
     }
-}
-
-// The environment of the slots.
-fn environment_of(slots: &[u16]) -> Env
-    requires { (k : ℕ) → IsIn slots.now k → k < SLOTS }
-    ensures { members result ≡ is_among slots.now }
-{
-    let mut environment = Env::empty();
-    for slot in slots {
-        environment = environment.with(*slot);
-    }
-    environment
 }
 
 // The place of a further cell in the order of cells.

@@ -3,7 +3,4 @@
 
 mod width;
 
-pub use width::Width;
-
-#[cfg(test)]
-mod tests;
+pub use width::{WIDEST, Width};

@@ -1,11 +1,14 @@
 // A number of bits, and the words of so many bits.
 
-ghost use Rattle.std.specs.Prelude.{ℕ, ◌≡◌, ◌+◌, ◌-◌, ◌*◌, ◌%◌, ◌^◌, ◌<◌, ◌≤◌, ◌↔◌, IsTrue, IfSome, ◌&&◌, nat_le, if◌then◌else◌, Some};
-ghost use Rattle.word_domain.specs.Words.{IsQuotient};
+ghost use Rattle.std.specs.Prelude.{ℕ, ◌≡◌, ◌+◌, ◌-◌, ◌*◌, ◌%◌, ◌^◌, ◌<◌, ◌≤◌, ◌↔◌, IsTrue, IfSome, if◌then◌else◌, Some};
+ghost use Rattle.word_domain.specs.Words.{is_width, IsQuotient};
 
 use std::marker::Model;
 
-/// A number of bits from 1 to 32. The words of a width are the numbers below two to its power.
+/// The most bits of a word; the least is one.
+pub const WIDEST: u32 = 32;
+
+/// A number of bits from 1 to [`WIDEST`]. The words of a width are the numbers below two to its power.
 #[derive(Clone, Copy, PartialEq, Eq, Debug)]
 pub struct Width {
     bits: u32,
@@ -13,33 +16,34 @@ pub struct Width {
 
 impl Model for Width {
     ghost use Rattle.std.specs.Prelude.{ℕ, ◌≤◌};
+    ghost use Rattle.word_domain.specs.declared.width.TheConstants.{WIDEST};
 
     ghost Value = { ℕ };
 
     ghost view = { λ w. w.bits };
 
-    ghost invariant = { λ w. (1 ≤ w.bits) × (w.bits ≤ 32) };
+    ghost invariant = { λ w. (1 ≤ w.bits) × (w.bits ≤ WIDEST) };
 
     ghost inverse = { λ n. record { bits = n } };
 }
 
 impl Width {
-    /// The width of so many bits.
+    /// The width of so many bits, if there is one.
     pub fn new(bits: u32) -> Option<Width>
-        ensures { result ≡ (if nat_le 1 bits && nat_le bits 32 then Some bits else None) }
+        ensures { result ≡ (if is_width bits then Some bits else None) }
     {
-        if 1 <= bits && bits <= 32 {
+        if 1 <= bits && bits <= WIDEST {
             Some(Width { bits })
         } else {
             None
         }
     }
 
-    /// The number of bits.
+    /// The number of bits, 1 to [`WIDEST`].
     pub fn bits(self) -> u32
         ensures value { result ≡ self }
         ensures low { 1 ≤ self }
-        ensures high { self ≤ 32 }
+        ensures high { self ≤ WIDEST }
     {
         self.bits
     }
@@ -48,7 +52,7 @@ impl Width {
     pub fn mask(self) -> u64
         ensures value { result ≡ 2 ^ self - 1 }
         ensures low { 2 ≤ 2 ^ self }
-        ensures high { 2 ^ self ≤ 2 ^ 32 }
+        ensures high { 2 ^ self ≤ 2 ^ WIDEST }
     {
         (1 << self.bits) - 1
     }
@@ -60,7 +64,7 @@ impl Width {
         value <= self.mask()
     }
 
-    /// The word with the other bits set.
+    /// The word of this width with the other bits set.
     pub fn complement(self, value: u64) -> u64
         requires { value < 2 ^ self }
         ensures value { result ≡ 2 ^ self - 1 - value }
@@ -69,7 +73,7 @@ impl Width {
         self.mask() - value
     }
 
-    /// The sum without its carry.
+    /// The sum of two words of this width, without its carry.
     pub fn sum_mod(self, a: u64, b: u64) -> u64
         requires a_fits { a < 2 ^ self }
         requires b_fits { b < 2 ^ self }

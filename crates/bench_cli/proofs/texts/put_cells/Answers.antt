@@ -10,7 +10,7 @@ use Rattle.bench_cli.proofs.texts.put_cells.Goals as goal
 use Rattle.bench_cli.proofs.texts.put_cells.Goals.{then-has_reading, else-has_reading}
 
 pub loop-place-init : goal.loop-place-init
-loop-place-init g c = PutsPieces-none _ _ _
+loop-place-init g c = PutsPieces-none _ _
 
 pub loop-place-preserved : goal.loop-place-preserved
 loop-place-preserved g c = elim c.if-has_reading.branch [

@@ -6,5 +6,5 @@ use Rattle.bench_cli.proofs.Joining.{PutsPieces}
 use Rattle.bench_cli.proofs.texts.put_cells.Given as goal
 
 abbrev pub invariant-loop-place : goal.invariant-loop-place
-invariant-loop-place g l = PutsPieces l.initial.failed l.failed (g.K.Sink.held l.initial.sink) (g.K.Sink.held l.sink) (g.K.Sink.faults l.initial.sink) (g.K.Sink.faults l.sink) l.is_first
+invariant-loop-place g l = PutsPieces l.initial.failed l.failed (g.K.Sink.told l.initial.sink) (g.K.Sink.told l.sink) l.is_first
     (cells_in l.present (places l.standing (members l.env)) (take l.place l.present.readings))

@@ -4,12 +4,13 @@ use Rattle.environment_sets.specs.Members.{members}
 use Rattle.standing_view.specs.View.{places}
 use Rattle.bench_cli.specs.Texts.{part_names_in}
 use Rattle.bench_cli.proofs.Joining.{PutsPieces-push, PutsPieces-as, PutsPieces-none, part_names-chosen, part_names-left}
+use Rattle.bench_cli.proofs.LabelLines.{parts_length}
 use Rattle.bench_cli.proofs.Putting.{Puts-as}
 use Rattle.bench_cli.proofs.texts.put_parts.Goals as goal
 use Rattle.bench_cli.proofs.texts.put_parts.Goals.{then-has_part, else-has_part}
 
 pub loop-place-init : goal.loop-place-init
-loop-place-init g c = PutsPieces-none _ _ _
+loop-place-init g c = PutsPieces-none _ _
 
 pub loop-place-preserved : goal.loop-place-preserved
 loop-place-preserved g c = elim c.if-has_part.branch [
@@ -24,3 +25,6 @@ pub returns : goal.returns
 returns g c =
     Puts-as (ap (λ parts. join_with_byte 44 (part_names_in (places c.args.standing.now (members c.args.env.now)) 0 parts)) (take_all c.loop-place.place c.args.present.now.parts (omega (arith, c.parts-place-end.ensures.value))))
     c.loop-place.invariant.puts
+
+pub has_part-requires : goal.has_part-requires
+has_part-requires g c = omega (arith, parts_length c.args.standing.now c.args.present.now c.requires, c.loop-place-test.true, c.parts-place-end.ensures.value)

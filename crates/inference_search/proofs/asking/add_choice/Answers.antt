@@ -1,6 +1,7 @@
-use Rattle.std.proofs.Common.{◌≡◌, length, true≢false, sym, ◌∙◌, arith}
+use Rattle.std.proofs.Common.{refl, ◌≡◌, length, true≢false, sym, ◌∙◌, arith}
 use Rattle.std.proofs.lemmas.Result.{IfOk-weaker}
-use Rattle.inference_search.proofs.Finding.{Finds-same, Finds-push, Finds-map, IsIn-last}
+use Rattle.environment_sets.proofs.Listings.{IsIn-last}
+use Rattle.inference_search.proofs.Finding.{Finds-same, Finds-push, Finds-map}
 use Rattle.inference_search.proofs.Choosing.{told_with_no_open_port, made_refuted, made_forced, told_refuted, told_forced}
 use Rattle.inference_search.proofs.asking.add_choice.Goals as goal
 
@@ -12,7 +13,7 @@ returns-then-said c =
     let agree = c.all_agree.ensures.0 c.if-not-all_agree.false in
     Finds-push _ _ _ _ _ c.in_ok-push.ensures.items
     (made_refuted s.slot s.instance s.must c.args.known wide _ _ _ _ _ c.facts_at-facts.ensures.facts using agree c.antecedents_of-from.ensures _ _ c.consequences-said.ensures c.if-said.true)
-    (λ alike uses. told_refuted s.slot s.instance s.must c.args.known wide _ _ _ _ _ c.facts_at-facts.ensures.facts using agree c.antecedents_of-from.ensures _ _ c.consequences-said.ensures c.if-said.true _ (IsIn-last _ _))
+    (λ alike uses. told_refuted s.slot s.instance s.must c.args.known wide _ _ _ _ _ c.facts_at-facts.ensures.facts using agree c.antecedents_of-from.ensures _ _ c.consequences-said.ensures c.if-said.true _ (IsIn-last _ _ _ refl))
 
 pub returns : goal.returns
 returns c =

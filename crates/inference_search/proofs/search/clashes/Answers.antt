@@ -7,4 +7,4 @@ use Rattle.inference_search.proofs.search.clashes.Goals as goal
 pub returns : goal.returns
 returns c =
     Finds-all _ (λ (g : Fact). HasClashOf c.args.fact g) (λ g xs ys stays done one differ. stays _ (done one differ))
-    c.args.alive.now c.args.fact c.loop-other.other-index _ _ (omega arith) c.loop-other.invariant
+    c.args.met.now c.args.fact c.loop-other.other-index _ _ (omega arith) c.loop-other.invariant

@@ -6,5 +6,5 @@ use Rattle.inference_search.proofs.search.find_made_by.Goals as goal
 
 pub returns : goal.returns
 returns c =
-    let P : List Inferred → Type 0 = λ old. Finds (IsMadeAt c.args.slots.now None c.args.slot) (IsDoneAt c.args.slots.now c.args.alive.now None c.args.slot) old c.add_slot.new.found.items in
-    all_made_by c.args.slots.now c.args.alive.now c.args.slot c.add_slot.new.found.items (subst P c.new-found.ensures.items c.in_ok-add_slot.ensures)
+    let P : List Inferred → Type 0 = λ old. Finds (IsMadeAt c.args.slots.now None c.args.slot) (IsDoneAt c.args.slots.now c.args.met.now None c.args.slot) old c.add_slot.new.found.items in
+    all_made_by c.args.slots.now c.args.met.now c.args.slot c.add_slot.new.found.items (subst P c.new-found.ensures.items c.in_ok-add_slot.ensures)

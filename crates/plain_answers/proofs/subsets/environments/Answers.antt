@@ -3,7 +3,7 @@ use Rattle.environment_sets.specs.Sets.{Set}
 use Rattle.environment_sets.specs.Lists.{IsRoster}
 use Rattle.circuit_model.specs.Diagnoses.{Place, AtCell}
 use Rattle.present_closure.specs.declared.environment.Environment.{Environment}
-use Rattle.present_closure.proofs.Measured.{fact_at}
+use Rattle.circuit_model.proofs.Readings.{IsFactOf-at}
 use Rattle.plain_answers.specs.Subsets.{sets, IsWithin, IsPartOrCell, doubling}
 use Rattle.plain_answers.proofs.Doubling.{parts_first, cell_doubled, stock_last}
 use Rattle.plain_answers.proofs.subsets.environments.Goals as goal
@@ -14,7 +14,7 @@ loop-place-init c = parts_first c.args.present.now (sets c.in_ok-all.all.items) 
 pub doubled-requires : goal.doubled-requires
 doubled-requires c =
     let lawful = c.readings-place-end.ensures.lawful in
-    let fact = fact_at c.args.present.now lawful c.loop-place.place c.reading.result c.reading.ensures in
+    let fact = IsFactOf-at c.args.present.now lawful c.loop-place.place c.reading.result c.reading.ensures in
     let net = fact.net in
     let cycle = fact.cycle in
     let nets = lawful.nets in

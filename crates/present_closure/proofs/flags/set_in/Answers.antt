@@ -1,10 +1,11 @@
 use Rattle.std.proofs.Common.{◌≡◌, [], true, false, length, slice_index_or, arith}
+use Rattle.present_closure.specs.declared.sizes.TheConstants.{CYCLES}
 use Rattle.present_closure.proofs.Grids.{value_same, value_other}
 use Rattle.present_closure.proofs.flags.set_in.Goals as goal
 
 pub returns-clause-here : goal.returns-clause-here
 returns-clause-here c =
-    let row : length (slice_index_or c.args.rows.now c.args.cell.net []) ≡ 16 = c.told-rows c.args.cell.net c.requires.net in
+    let row : length (slice_index_or c.args.rows.now c.args.cell.net []) ≡ CYCLES = c.told-rows c.args.cell.net c.requires.net in
     let cycle = c.requires.cycle in
     value_same false c.args.rows.now c.args.cell true c.requires.net (omega arith)
 

@@ -1,15 +1,15 @@
 use Rattle.std.proofs.Common.{List, sym, subst}
 use Rattle.circuit_model.specs.declared.present.Component.{Component}
-use Rattle.circuit_model.specs.Present.{Setup, IsLawful, with_part}
-use Rattle.circuit_model.specs.Kept.{setup_of}
+use Rattle.circuit_model.specs.Present.{PresentView, IsLawful, with_part}
+use Rattle.circuit_model.specs.Kept.{view_of}
 use Rattle.circuit_model.proofs.Presents.{IsLawful-with_part}
 use Rattle.circuit_model.proofs.present.Present.add_part.Goals as goal
 
 pub invariant_of-self-2 : goal.invariant_of-self-2
 invariant_of-self-2 c =
-    let s = setup_of c.self.inside in
+    let s = view_of c.self.inside in
     let part = c.args.component in
-    let lawful = subst (λ (t : Setup). IsLawful t → IsLawful (with_part part t)) (sym c.self.view_is) (λ h. IsLawful-with_part part c.args.self.now h c.requires.free c.requires.room c.requires.lawful c.bytes-name.ensures.name) c.self.invariant.lawful in
+    let lawful = subst (λ (t : PresentView). IsLawful t → IsLawful (with_part part t)) (sym c.self.view_is) (λ h. IsLawful-with_part part c.args.self.now h c.requires.free c.requires.room c.requires.lawful c.bytes-name.ensures.name) c.self.invariant.lawful in
     record {
       lawful = subst (λ (parts : List Component). IsLawful (record s { parts = parts })) (sym c.in_ok-push.ensures.items) lawful;
       room = c.self.invariant.room;

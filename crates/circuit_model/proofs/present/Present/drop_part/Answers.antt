@@ -1,13 +1,13 @@
 use Rattle.std.proofs.Common.{◌≡◌, ◌-◌, ℕ, List, length, take, sym, ap, subst, ◌∙◌, rules}
 use Rattle.circuit_model.specs.declared.present.Component.{Component}
-use Rattle.circuit_model.specs.Present.{Setup, IsLawful}
-use Rattle.circuit_model.specs.Kept.{setup_of}
+use Rattle.circuit_model.specs.Present.{PresentView, IsLawful}
+use Rattle.circuit_model.specs.Kept.{view_of}
 use Rattle.circuit_model.proofs.Presents.{IsLawful-without_last}
 use Rattle.circuit_model.proofs.present.Present.drop_part.Goals as goal
 
 pub invariant_of-self : goal.invariant_of-self
 invariant_of-self c =
-    let s : Setup = setup_of c.self.inside in
+    let s : PresentView = view_of c.self.inside in
     let count : c.len.result ≡ length c.self.inside.parts.items = search (rules, c.len.ensures) in
     let items : c.truncate.new.self.items ≡ take (length s.parts - 1) s.parts = c.truncate.ensures.items ∙ ap (λ (n : ℕ). take (n - 1) c.self.inside.parts.items) count in
     record {

@@ -1,15 +1,25 @@
-use Rattle.std.proofs.Common.{◌||◌, refl, arith, sym, ◌∙◌}
-use mathlib.Core.Path.{fun_ext}
+use Rattle.std.proofs.Common.{◌≡◌, ℕ, get_or, bit_or, refl, sym, ◌∙◌, arith}
 use Rattle.environment_sets.specs.Members.{members}
-use Rattle.environment_sets.proofs.Slots.{IsJoined-none, IsJoined-more, IsJoined-all}
+use Rattle.environment_sets.proofs.Words.{IsJoined-none, IsJoined-more, IsJoined-all, slots_in-union, fits-union}
 use Rattle.environment_sets.proofs.environment.Env.union.Goals as goal
-
-pub returns : goal.returns
-unfolding members
-returns c = fun_ext (IsJoined-all (λ a b. a || b) c.args.self.slots c.args.other.slots _ c.loop-i.i refl (c.args.other.full ∙ sym c.args.self.full) (omega arith) c.loop-i.invariant)
 
 pub loop-i-init : goal.loop-i-init
 loop-i-init c = IsJoined-none _ _ _ _ refl
 
 pub loop-i-preserved : goal.loop-i-preserved
-loop-i-preserved c = IsJoined-more (λ a b. a || b) _ _ _ c.loop-i.i c.loop-i.invariant (omega arith)
+loop-i-preserved c = IsJoined-more bit_or _ _ _ c.loop-i.i c.loop-i.invariant (omega arith)
+
+pub returns : goal.returns
+unfolding members
+returns c =
+    let xs = c.args.self.words in
+    let ys = c.args.other.words in
+    let each : (k : ℕ) → get_or c.loop-i.words k 0 ≡ bit_or (get_or xs k 0) (get_or ys k 0) = IsJoined-all bit_or xs ys c.loop-i.words c.loop-i.i refl (c.args.other.full ∙ sym c.args.self.full) (omega (arith, c.args.self.full)) c.loop-i.invariant in
+    slots_in-union xs ys c.loop-i.words each
+
+pub invariant_of-result-clause-fit : goal.invariant_of-result-clause-fit
+invariant_of-result-clause-fit c =
+    let xs = c.args.self.words in
+    let ys = c.args.other.words in
+    let each : (k : ℕ) → get_or c.loop-i.words k 0 ≡ bit_or (get_or xs k 0) (get_or ys k 0) = IsJoined-all bit_or xs ys c.loop-i.words c.loop-i.i refl (c.args.other.full ∙ sym c.args.self.full) (omega (arith, c.args.self.full)) c.loop-i.invariant in
+    fits-union xs ys c.loop-i.words each c.args.self.fit c.args.other.fit

@@ -1,8 +1,9 @@
-use Rattle.std.proofs.Common.{arith}
+use Rattle.std.proofs.Common.{◌/◌, ◌<◌, length, arith}
+use Rattle.environment_sets.specs.declared.environment.TheConstants.{WORD_BITS}
 use Rattle.environment_sets.specs.Members.{members}
-use Rattle.environment_sets.proofs.Slots.{places-set_false}
+use Rattle.environment_sets.proofs.Words.{slots_in-without}
 use Rattle.environment_sets.proofs.environment.Env.without.Goals as goal
 
 pub returns : goal.returns
 unfolding members
-returns c = places-set_false c.args.self.slots c.args.slot (omega arith)
+returns c = let inside : c.args.slot / WORD_BITS < length c.args.self.words = omega (arith, c.args.self.full, c.requires) in slots_in-without c.args.self.words c.args.slot inside

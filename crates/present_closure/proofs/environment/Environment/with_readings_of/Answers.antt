@@ -1,7 +1,7 @@
 use Rattle.std.proofs.Common.{arith}
 use Rattle.present_closure.specs.Members.{members}
 use Rattle.present_closure.proofs.Environments.{added_none, added_more, added_all}
-use Rattle.present_closure.proofs.Measured.{fact_at}
+use Rattle.circuit_model.proofs.Readings.{IsFactOf-at}
 use Rattle.present_closure.proofs.environment.Environment.with_readings_of.Goals as goal
 
 pub loop-place-init : goal.loop-place-init
@@ -10,14 +10,14 @@ loop-place-init c = added_none c.args.present.now (members c.args.self)
 pub with_cell-more-requires-clause-net : goal.with_cell-more-requires-clause-net
 with_cell-more-requires-clause-net c =
     let lawful = c.readings-place-end.ensures.lawful in
-    let inside = (fact_at c.args.present.now lawful c.loop-place.place c.reading.result c.reading.ensures).net in
+    let inside = (IsFactOf-at c.args.present.now lawful c.loop-place.place c.reading.result c.reading.ensures).net in
     let most = lawful.nets in
     omega arith
 
 pub with_cell-more-requires-clause-cycle : goal.with_cell-more-requires-clause-cycle
 with_cell-more-requires-clause-cycle c =
     let lawful = c.readings-place-end.ensures.lawful in
-    let inside = (fact_at c.args.present.now lawful c.loop-place.place c.reading.result c.reading.ensures).cycle in
+    let inside = (IsFactOf-at c.args.present.now lawful c.loop-place.place c.reading.result c.reading.ensures).cycle in
     let most = lawful.cycles in
     omega arith
 

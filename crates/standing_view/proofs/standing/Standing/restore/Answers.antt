@@ -3,11 +3,13 @@ use Rattle.std.specs.List.{insert}
 use Rattle.std.proofs.lemmas.List.{length-drop}
 use Rattle.std.proofs.lemmas.List.Edits.{length-insert}
 use Rattle.circuit_model.specs.declared.model.Cell.{Cell}
-use Rattle.circuit_model.specs.Present.{MOST_READINGS}
+use Rattle.circuit_model.specs.declared.limits.TheConstants.{MOST_READINGS}
 use Rattle.environment_sets.specs.Lists.{IsIn}
+use Rattle.environment_sets.specs.Sets.{Set, only, ◌∪◌}
 use Rattle.standing_view.specs.Kept.{stands_of}
-use Rattle.standing_view.specs.Standing.{Stands, IsStanding, order_of, place_among, with_reading_at}
+use Rattle.standing_view.specs.Standing.{Stands, IsStanding, order_of, mask_of, place_among, with_reading_at}
 use Rattle.standing_view.proofs.Kept.{reading_stands, reading_put, place-within}
+use Rattle.standing_view.proofs.Masks.{reading_among}
 use Rattle.standing_view.proofs.standing.Standing.restore.Goals as goal
 
 pub invariant_of-self : goal.invariant_of-self
@@ -32,6 +34,7 @@ invariant_of-self c =
     record {
       standing = subst (λ (st : Stands). IsStanding st) (sym put) (reading_stands before c.self.invariant.standing slot c.requires.below free cell new room);
       count = omega arith;
+      mask = c.with-self-inside.ensures ∙ (ap (λ (M : Set ℕ). M ∪ only slot) c.self.invariant.mask ∙ (reading_among before slot cell ∙ ap mask_of (sym put)));
       room = omega arith;
       cells_room = omega arith;
     }

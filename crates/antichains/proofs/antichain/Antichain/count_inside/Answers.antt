@@ -1,0 +1,20 @@
+use Rattle.std.proofs.Common.{rules, tests, refl, subst, List}
+use Rattle.std.specs.List.{filter}
+use Rattle.std.proofs.lemmas.Iterator.{YieldsList-from_slice}
+use Rattle.std.proofs.lemmas.Iterator.Consumers.{YieldsList-from_filter, count_from_yields_List}
+use Rattle.environment_sets.specs.declared.environment.Env.{Env}
+use Rattle.environment_sets.specs.declared.environment.TheConstants.{SLOTS}
+use Rattle.environment_sets.specs.Families.{AreInside}
+use Rattle.environment_sets.specs.Members.{members, HasMember}
+use Rattle.environment_sets.specs.Sets.{is_within}
+use Rattle.antichains.proofs.Changes.{inside-left}
+use Rattle.antichains.proofs.antichain.Antichain.count_inside.Goals as goal
+
+pub returns : goal.returns
+returns c =
+    let mask = members c.args.mask.now in
+    let list = c.self.inside.list.items in
+    let P : List Env → Type 0 = λ es. AreInside (HasMember es) mask c.count.result in
+    subst P c.self.view_is (inside-left list (filter (λ (e : Env). is_within SLOTS (members e) mask) list) mask c.count.result refl
+    (count_from_yields_List c.filter.result _ c.count.ensures.ran (YieldsList-from_filter _ (λ (e : Env). is_within SLOTS (members e) mask) (YieldsList-from_slice list (cc)) c.filter.ensures.closure (λ x b q k. search (rules, tests))))
+    c.self.invariant.0)

@@ -1,0 +1,6 @@
+// What is remembered: assumptions, each at a slot.
+#![tactic(auto)]
+
+mod slots;
+
+pub use slots::Slots;

@@ -1,0 +1,120 @@
+//! A diagnosis bench for digital circuits: it reads a session, and answers each of its lines. The program is a crate of
+//! its own, over `exit_number`.
+#![tactic(auto)]
+
+ghost use Rattle.std.specs.Prelude.{◌≡◌, ◌↔◌, IsTrue};
+ghost use Rattle.bench_cli.specs.Program.{Performs, Exits, HasWords, AsksForSession};
+ghost use Rattle.bench_cli.specs.Statuses.{number_of};
+ghost use Rattle.bench_cli.specs.Words.{IsRun};
+
+mod changes;
+mod checks;
+mod labels;
+mod reading;
+mod remembering;
+mod replies;
+mod requests;
+mod session;
+mod state;
+mod texts;
+mod writing;
+
+use bench_io::{Sink, Source, write_all};
+use std::alloc::Global;
+
+/// The number that the program exits with where the words of the command line are not handed out.
+pub const NO_WORDS: u8 = 7;
+
+/// The words of the command line, as the system gives them.
+#[derive(Drop)]
+pub enum CommandLine {
+    /// The words, without the program's own name.
+    Words(Vec<String>),
+    /// They were not handed out.
+    NotHandedOut,
+    /// There was no memory to keep them.
+    NotKept,
+}
+
+/// How a run of the program ends. Where several apply, the order is `WriteFault`, `Usage`, `ReadFault`, `TooMuch`,
+/// `NoMemory`, `SomeRefused`, `Done`.
+#[derive(Clone, Copy, Debug, PartialEq, Eq)]
+pub enum Status {
+    /// All was read and answered, and no reply is a refusal.
+    Done,
+    /// All was read and answered, and some reply is a refusal.
+    SomeRefused,
+    /// The words of the command line ask for nothing that there is.
+    Usage,
+    /// A read failed. The lines whose newline came before it are answered.
+    ReadFault,
+    /// A write failed.
+    WriteFault,
+    /// More bytes came than a session may have. The lines that end among its most bytes are answered.
+    TooMuch,
+    /// Some line found no memory, or there was none to begin with.
+    NoMemory,
+}
+
+impl Status {
+    /// The number that the program exits with: 0 to 6.
+    pub fn number(&self) -> u8
+        ensures { result ≡ number_of self.now }
+    {
+        match self {
+            Status::Done => 0,
+            Status::SomeRefused => 1,
+            Status::Usage => 2,
+            Status::ReadFault => 3,
+            Status::WriteFault => 4,
+            Status::TooMuch => 5,
+            Status::NoMemory => 6,
+        }
+    }
+}
+
+fn is_run(words: &[String]) -> bool
+    ensures { IsTrue result ↔ IsRun words.now }
+{
+    words.len() == 1 && words[0].as_str() == "run"
+}
+
+/// Runs the program. `words` are those of the command line without the program's own name.
+///
+/// What no clause says: that memory is found.
+pub fn gde<S: Source, K: Sink>(
+    alloc: Global,
+    words: &[String],
+    source: &mut S,
+    sink: &mut K,
+) -> Status
+    ensures performs { Performs words.now result (S.told source.old) (S.told source.new) (K.told sink.old) (K.told sink.new) }
+    ensures unread { (IsRun words.now → ⊥) → source.new ≡ source.old }
+{
+    if is_run(words) {
+        return session::run(alloc, source, sink);
+    }
+    match write_all(sink, b"usage: gde run | run order N | make N SEED\n") {
+        Ok(()) => Status::Usage,
+        Err(_) => Status::WriteFault,
+    }
+}
+
+/// The whole program: the number that it exits with, 0 to 7. It is that of the status of `gde`; where there are no words,
+/// nothing is read or written.
+pub fn exit_number<S: Source, K: Sink>(
+    alloc: Global,
+    command_line: &CommandLine,
+    source: &mut S,
+    sink: &mut K,
+) -> u8
+    ensures exits { Exits command_line.now result (S.told source.old) (S.told source.new) (K.told sink.old) (K.told sink.new) }
+    ensures unread { (AsksForSession command_line.now → ⊥) → source.new ≡ source.old }
+    ensures unwritten { (HasWords command_line.now → ⊥) → sink.new ≡ sink.old }
+{
+    match command_line {
+        CommandLine::Words(words) => gde(alloc, words, source, sink).number(),
+        CommandLine::NotHandedOut => NO_WORDS,
+        CommandLine::NotKept => Status::NoMemory.number(),
+    }
+}

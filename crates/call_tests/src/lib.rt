@@ -1,0 +1,25 @@
+// Calls of the crates below: with answers worked out by hand, at each limit, and one past it.
+#![tactic(auto)]
+
+#[cfg(test)]
+mod agenda;
+#[cfg(test)]
+mod circuits;
+#[cfg(test)]
+mod closures;
+#[cfg(test)]
+mod engine;
+#[cfg(test)]
+mod inferences;
+#[cfg(test)]
+mod presents;
+#[cfg(test)]
+mod search;
+#[cfg(test)]
+mod sets;
+#[cfg(test)]
+mod standing;
+#[cfg(test)]
+mod streams;
+#[cfg(test)]
+mod words;

@@ -1,0 +1,4 @@
+pub mod Before
+pub mod Ranking
+pub mod Found
+pub mod Sums

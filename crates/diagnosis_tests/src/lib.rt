@@ -1,0 +1,5 @@
+// Hitting sets and diagnoses at work.
+#![tactic(auto)]
+
+#[cfg(test)]
+mod tests;

@@ -1,6 +1,0 @@
-use Rattle.std.proofs.Common.{◌≡◌, ℕ, None, length}
-use Rattle.inference_search.specs.Slots.{stock}
-use Rattle.inference_search.proofs.slots.Slots.open.Given as goal
-
-abbrev pub invariant-loop-slot : goal.invariant-loop-slot
-invariant-loop-slot l = (length l.list.items ≡ l._slot) × ((k : ℕ) → stock l.list.items k ≡ None)

@@ -1,6 +1,0 @@
-use Rattle.std.proofs.Common.{ℕ, ◌<◌, IsSome}
-use Rattle.inference_search.specs.Slots.{stock}
-use Rattle.inference_search.proofs.slots.first_none.Given as goal
-
-abbrev pub invariant-loop-place : goal.invariant-loop-place
-invariant-loop-place l = (k : ℕ) → k < l.place → IsSome (stock l.list k)

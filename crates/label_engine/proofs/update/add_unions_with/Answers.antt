@@ -1,0 +1,25 @@
+use Rattle.std.proofs.Common.{◌≡◌, ◌+◌, ◌<◌, ℕ, List, [], ◌∷◌, ◌++◌, get_or, take, sym, ap, subst, ◌∙◌, length}
+use Rattle.std.proofs.lemmas.List.{take_more, take_all}
+use Rattle.environment_sets.specs.declared.environment.Env.{Env}
+use Rattle.label_engine.specs.Update.{HasUnionsWith}
+use Rattle.label_engine.proofs.Walked.{none_yet, one_more}
+use Rattle.label_engine.proofs.update.add_unions_with.Goals as goal
+
+pub loop-env-init : goal.loop-env-init
+loop-env-init c = none_yet c.args.item.now c.args.due.now.items
+
+pub loop-env-preserved : goal.loop-env-preserved
+loop-env-preserved c =
+    let label : List Env = c.args.label.now in
+    let i : ℕ = c.loop-env.env-index in
+    let env : Env = c.env-item.result in
+    let low : i < length label = (let P : List Env → Type 0 = λ l. i < length l in subst P c.members-env-items.ensures c.loop-env-test.true) in
+    let at : get_or label i env ≡ env = (let P : List Env → Type 0 = λ l. get_or l i env ≡ env in subst P c.members-env-items.ensures (sym c.env-item.is)) in
+    let front : take (i + 1) label ≡ take i label ++ env ∷ [] = take_more label i env low ∙ ap (λ (e : Env). take i label ++ e ∷ []) at in
+    rw (c.in_ok-push.ensures.items, front) (one_more c.args.item.now (take i label) env c.args.due.now.items c.loop-env.due.items c.union_of.result c.loop-env.invariant c.union_of.ensures)
+
+pub returns : goal.returns
+returns c =
+    let whole : take c.loop-env.env-index c.args.label.now ≡ c.args.label.now = take_all c.loop-env.env-index c.args.label.now (rw (← c.members-env-items.ensures) c.loop-env-test.false) in
+    let P : List Env → Type 0 = λ l. HasUnionsWith c.args.item.now l c.args.due.now.items c.loop-env.due.items in
+    subst P whole c.loop-env.invariant

@@ -1,6 +1,0 @@
-use Rattle.std.proofs.Common.{take}
-use Rattle.label_engine.specs.Work.{HasUnionsWith}
-use Rattle.label_engine.proofs.work.add_unions_with.Given as goal
-
-abbrev pub invariant-loop-env : goal.invariant-loop-env
-invariant-loop-env l = HasUnionsWith l.item (take l.env-index l.label) l.initial.due.items l.due.items

@@ -1,0 +1,207 @@
+-- What holds while labels are brought up to date with one assumption more.
+use Rattle.std.specs.Prelude.{◌≡◌, ◌⊎◌, ℕ, ◌+◌, ◌*◌, ◌^◌, Bool, true, false, ◌||◌, ◌==◌, cond, Option, Some, None, List, [], ◌∷◌, ◌++◌, length, map, filter, ◌≤◌, ◌↔◌}
+use Rattle.std.specs.Option.{option_or, is_none}
+use Rattle.circuit_model.specs.declared.model.Fact.{Fact}
+use Rattle.circuit_model.specs.declared.model.Assumption.{Assumption}
+use Rattle.circuit_model.specs.Stock.{Stock}
+use Rattle.circuit_model.specs.Settled.{IsSettled}
+use Rattle.environment_sets.specs.declared.environment.Env.{Env}
+use Rattle.environment_sets.specs.Sets.{Set, ◌∪◌, no_elements, only}
+use Rattle.environment_sets.specs.Members.{members, HasMember}
+use Rattle.environment_sets.specs.Lists.{IsIn, AreDistinct}
+use Rattle.propagation.specs.Propagating.{Target, Family, RecordedInference, All, AreRecorded, IsPropagating, AgreeWithout, IsPut}
+use Rattle.propagation.specs.Uncovered.{uncovered}
+use Rattle.label_engine.specs.declared.nodes.Node.{Node}
+use Rattle.label_engine.specs.declared.nodes.Nodes.{Nodes}
+use Rattle.label_engine.specs.declared.nodes.Insertion.{Insertion}
+use Rattle.inference_search.specs.declared.inferred.Inferred.{Inferred}
+use Rattle.assumption_slots.specs.Slots.{stock}
+use Rattle.inference_search.specs.Inferences.{inference, RecordedIn}
+use Rattle.inference_search.specs.Found.{AreFound}
+use Rattle.label_engine.specs.declared.update.Pending.{Pending}
+use Rattle.label_engine.specs.declared.update.Update.{Update}
+use Rattle.label_engine.specs.Nodes.{is_same, facts_of, label_in, KeptIn, reaches}
+
+-- the two are the same target
+abbrev pub is_same_target : Target → Target → Bool
+is_same_target None None = true
+is_same_target None (Some g) = false
+is_same_target (Some f) None = false
+is_same_target (Some f) (Some g) = is_same f g
+
+-- the inference goes from the fact
+abbrev pub goes_from : Fact → Inferred → Bool
+goes_from f i = is_same_target i.first (Some f) || is_same_target i.second (Some f)
+
+-- the environments that are to be put in at each target
+abbrev pub DueIn : List Insertion → Family
+DueIn due t E = (d : Insertion) × IsIn due d × (d.target ≡ t) × (members d.env ≡ E)
+
+-- the inference waits with an environment of one of its facts
+abbrev pub WaitsIn : List Pending → RecordedInference → Fact → Set ℕ → Type 0
+WaitsIn agenda j f E = (p : Pending) × IsIn agenda p × (inference p.inferred ≡ j) × (p.at ≡ f) × (members p.env ≡ E)
+
+-- what holds while environments are to be put in and inferences wait
+abbrev pub Holds : List (Option Assumption) → ℕ → Nodes → List Inferred → List Insertion → List Pending → Type 0
+Holds slots slot nodes recorded due agenda = IsPropagating (stock slots) slot (IsIn (facts_of nodes.list.items)) (KeptIn nodes) (RecordedIn recorded) (DueIn due) (WaitsIn agenda)
+
+-- it holds of the update
+abbrev pub Propagates : List (Option Assumption) → Update → Type 0
+Propagates slots u = Holds slots u.slot u.nodes u.recorded.items u.due.items u.agenda
+
+-- it holds with one insertion more that is due
+abbrev pub DueAlso : List (Option Assumption) → Insertion → Update → Type 0
+DueAlso slots due u = Holds slots u.slot u.nodes u.recorded.items (due ∷ u.due.items) u.agenda
+
+-- it holds with one inference more that waits
+abbrev pub WaitsAlso : List (Option Assumption) → Pending → Update → Type 0
+WaitsAlso slots item u = Holds slots u.slot u.nodes u.recorded.items u.due.items (item ∷ u.agenda)
+
+-- the inference, with an environment of one of its facts
+abbrev pub item_at : Fact → Env → Inferred → Pending
+item_at f e i = record { inferred = i; at = f; env = e }
+
+-- each inference that goes from the fact, with the environment
+abbrev pub items_at : Target → Env → List Inferred → List Pending
+items_at None e recorded = []
+items_at (Some f) e recorded = map (item_at f e) (filter (goes_from f) recorded)
+
+-- each inference that goes from the target of what is put in, with its environment
+abbrev pub items_for : Insertion → List Inferred → List Pending
+items_for due recorded = items_at due.target due.env recorded
+
+-- one of the facts that the inference goes from, if it goes from any
+abbrev pub some_fact : Inferred → Option Fact
+some_fact i = option_or i.first i.second
+
+-- the inference goes from no fact
+abbrev pub goes_from_none : Inferred → Bool
+goes_from_none i = is_none (some_fact i)
+
+-- the environment, at what the inference leads to
+abbrev pub due_with : Env → Inferred → Insertion
+due_with e i = record { target = i.to; env = e }
+
+-- the inference with each environment of the fact's label
+abbrev pub items_with : List Node → Inferred → Option Fact → List Pending
+items_with nodes i None = []
+items_with nodes i (Some f) = map (λ e. item_at f e i) (label_in nodes f)
+
+-- each of the inferences with each environment of one of its facts
+abbrev pub items_from : List Node → List Inferred → List Pending
+items_from nodes [] = []
+items_from nodes (i ∷ is) = items_with nodes i (some_fact i) ++ items_from nodes is
+
+-- of the facts that the inference goes from, the one other than this one
+abbrev pub other_fact : Inferred → Fact → Option Fact
+other_fact i f = cond (is_same_target i.first (Some f)) i.second i.first
+
+-- the slot of the maker, if there is one
+abbrev pub made_by : Option ℕ → Set ℕ
+made_by None = no_elements
+made_by (Some k) = only k
+
+-- what is due is the union of the item's environment, a set of the other fact and the maker, at what the inference leads to
+pub record IsUnion (item : Pending) (E : Set ℕ) (d : Insertion) : Type 0 where
+  pub target : d.target ≡ item.inferred.to
+  pub joined : members d.env ≡ (members item.env ∪ E) ∪ made_by item.inferred.maker
+
+-- what was due still is, and besides exactly a union for each environment of the label
+pub record HasUnionsWith (item : Pending) (label : List Env) (old new : List Insertion) : Type 0 where
+  pub stays : (d : Insertion) → IsIn old d → IsIn new d
+  pub each : (E : Set ℕ) → HasMember label E → (d : Insertion) × IsIn new d × IsUnion item E d
+  pub only : (d : Insertion) → IsIn new d → IsIn old d ⊎ ((E : Set ℕ) × HasMember label E × IsUnion item E d)
+
+-- what was due still is, and besides exactly the item's unions: with nothing where there is no other fact, and else with each
+-- environment of the other fact's label
+pub record HasUnions (item : Pending) (nodes : Nodes) (old new : List Insertion) : Type 0 where
+  pub stays : (d : Insertion) → IsIn old d → IsIn new d
+  pub alone : other_fact item.inferred item.at ≡ None → (d : Insertion) × IsIn new d × IsUnion item no_elements d
+  pub each : (g : Fact) (E : Set ℕ) → other_fact item.inferred item.at ≡ Some g → KeptIn nodes (Some g) E → (d : Insertion) × IsIn new d × IsUnion item E d
+  pub only :
+      (d : Insertion) → IsIn new d
+      → IsIn old d ⊎ (((other_fact item.inferred item.at ≡ None) × IsUnion item no_elements d) ⊎ ((g : Fact) × (E : Set ℕ) × (other_fact item.inferred item.at ≡ Some g) × KeptIn nodes (Some g) E × IsUnion item E d))
+
+-- what is kept are the labels and the nogoods of the stock, its inferences from facts that were met are recorded, what has an
+-- environment was met, and no fact has two nodes
+pub record AreUpToDate (S : Stock ℕ) (nodes : Nodes) (recorded : List Inferred) : Type 0 where
+  pub settled : IsSettled S (λ f. KeptIn nodes (Some f)) (KeptIn nodes None)
+  pub are : AreRecorded S (IsIn (facts_of nodes.list.items)) All (RecordedIn recorded)
+  pub were_met : (f : Fact) (E : Set ℕ) → KeptIn nodes (Some f) E → IsIn (facts_of nodes.list.items) f
+  pub once : AreDistinct (facts_of nodes.list.items)
+
+-- all is up to date with the stock, nothing is due and nothing waits
+pub record IsAtRest (S : Stock ℕ) (u : Update) : Type 0 where
+  pub up_to_date : AreUpToDate S u.nodes u.recorded.items
+  pub none_due : u.due.items ≡ []
+  pub nothing_waits : u.agenda ≡ []
+
+-- how much is left to do: the pairs of a target and an environment that are not reached, and within them what waits
+abbrev pub load : Update → ℕ
+load u = uncovered (reaches u.nodes) * 2 ^ 64 + length u.agenda
+
+-- the same is kept that lacks the slot
+abbrev pub AgreesWith : Update → Update → Type 0
+AgreesWith old new = AgreeWithout old.slot (KeptIn old.nodes) (KeptIn new.nodes)
+
+-- it still holds, and no more is left to do
+pub record CarriesOn (slots : List (Option Assumption)) (old new : Update) : Type 0 where
+  pub propagates : Propagates slots new
+  pub agrees : AgreesWith old new
+  pub same_slot : new.slot ≡ old.slot
+  pub no_more : load new ≤ load old
+
+-- as before, but the target, where it is a fact, has a node
+pub record IsReady (slots : List (Option Assumption)) (due : Insertion) (old new : Update) : Type 0 where
+  pub due_also : DueAlso slots due new
+  pub were_met : (f : Fact) → due.target ≡ Some f → IsIn (facts_of new.nodes.list.items) f
+  pub labels_same : (f : Fact) → label_in new.nodes.list.items f ≡ label_in old.nodes.list.items f
+  pub nogoods_same : new.nodes.nogoods ≡ old.nodes.nogoods
+  pub due_same : new.due.items ≡ old.due.items
+  pub agenda_same : new.agenda ≡ old.agenda
+  pub same_slot : new.slot ≡ old.slot
+
+-- what holds at every exit: what lacks the slot is kept as before, what was recorded and met since stands behind, and no fact
+-- comes to have two nodes
+pub record Survives (old new : Update) : Type 0 where
+  pub agrees : AgreesWith old new
+  pub same_slot : new.slot ≡ old.slot
+  pub added : List Inferred
+  pub recorded : new.recorded.items ≡ old.recorded.items ++ added
+  pub newly : List Fact
+  pub met : facts_of new.nodes.list.items ≡ facts_of old.nodes.list.items ++ newly
+  pub once : AreDistinct (facts_of old.nodes.list.items) → AreDistinct (facts_of new.nodes.list.items)
+
+-- the environment is put in at its target, and waits at each recorded inference that goes from there
+pub record IsPutThere (due : Insertion) (old new : Update) : Type 0 where
+  pub put : IsPut due.target (members due.env) (KeptIn old.nodes) (KeptIn new.nodes)
+  pub met : facts_of new.nodes.list.items ≡ facts_of old.nodes.list.items
+  pub agenda : new.agenda ≡ old.agenda ++ items_for due old.recorded.items
+  pub recorded : new.recorded.items ≡ old.recorded.items
+  pub due_same : new.due.items ≡ old.due.items
+  pub slot : new.slot ≡ old.slot
+
+-- the labels and the nogoods are as before
+pub record AreKeptAlike (old new : Update) : Type 0 where
+  pub labels : (f : Fact) → label_in new.nodes.list.items f ≡ label_in old.nodes.list.items f
+  pub nogoods : new.nodes.nogoods ≡ old.nodes.nogoods
+
+-- the fact was met: the inferences that use it are recorded, and all else is as before
+pub record HasMet (slots : List (Option Assumption)) (f : Fact) (old new : Update) : Type 0 where
+  pub found : List Inferred
+  pub are_found : AreFound slots (facts_of old.nodes.list.items) f found
+  pub recorded : new.recorded.items ≡ old.recorded.items ++ found
+  pub met : facts_of new.nodes.list.items ≡ facts_of old.nodes.list.items ++ f ∷ []
+  pub due : new.due.items ≡ old.due.items
+  pub agenda : new.agenda ≡ old.agenda
+  pub slot : new.slot ≡ old.slot
+
+-- the stock without the slot
+abbrev pub before : List (Option Assumption) → ℕ → Stock ℕ
+before slots slot k = cond (k == slot) None (stock slots k)
+
+-- all is up to date without the slot, what is kept is what was kept, and nothing is under way
+pub record IsTakenBack (slots : List (Option Assumption)) (old new : Update) : Type 0 where
+  pub at_rest : IsAtRest (before slots new.slot) new
+  pub same : (t : Target) (E : Set ℕ) → KeptIn old.nodes t E ↔ KeptIn new.nodes t E
+  pub same_slot : new.slot ≡ old.slot

@@ -1,0 +1,189 @@
+// What is kept: the facts that were met, each with its label, and the nogoods.
+
+ghost use Rattle.std.specs.Prelude.{◌≡◌, ◌<◌, ◌↔◌, ◌++◌, ◌∷◌, [], IsTrue, IfOk, OnOk, OnErr, MatchOption, Some, None, position, take};
+ghost use Rattle.std.specs.List.{list_any};
+ghost use Rattle.environment_sets.specs.Sets.{◌⊆◌};
+ghost use Rattle.environment_sets.specs.Members.{members, HasMember};
+ghost use Rattle.environment_sets.specs.Families.{Drops, IsCovered};
+ghost use Rattle.propagation.specs.Propagating.{IsReached, IsPut};
+ghost use Rattle.label_engine.specs.Nodes.{is_same, facts_of, label_in, KeptIn, IsMet, EachDrops};
+
+use circuit_model::Fact;
+use environment_sets::{Env, SLOTS};
+use label_algebra::Label;
+use nogood_store::Nogoods;
+use std::alloc::{AllocError, Global};
+
+/// A fact with its label.
+#[derive(Drop)]
+pub struct Node {
+    pub fact: Fact,
+    pub label: Label,
+}
+
+/// A node for each fact that was met, and the nogoods. A fact that was not met has no environment.
+#[derive(Drop)]
+pub struct Nodes {
+    pub list: Vec<Node>,
+    pub nogoods: Nogoods,
+}
+
+/// An environment that is to be put in at a fact, or as a nogood.
+#[derive(Clone, Copy)]
+pub struct Insertion {
+    pub target: Option<Fact>,
+    pub env: Env,
+}
+
+/// Whether the two are the same fact.
+pub fn is_same_fact(a: &Fact, b: &Fact) -> bool
+    ensures { result ≡ is_same a.now b.now }
+{
+    a.cell.net == b.cell.net && a.cell.cycle == b.cell.cycle && a.value == b.value
+}
+
+// The place of the fact's node.
+fn place_of(nodes: &[Node], fact: &Fact) -> Option<usize>
+    ensures { result ≡ position (λ n. is_same n.fact fact.now) nodes.now }
+{
+    nodes.iter().position(|node| is_same_fact(&node.fact, fact))
+}
+
+// Drops the environments that contain the nogood.
+fn drop_over(nodes: &mut [Node], nogood: &Env)
+    ensures { EachDrops (λ F. members nogood.now ⊆ F) nodes.old nodes.new }
+{
+    for place in 0..nodes.len() {
+        let node = &mut nodes[place];
+        node.label.drop_over(nogood);
+    }
+}
+
+// Drops the environments that have the slot.
+fn drop_slot(nodes: &mut [Node], slot: u16)
+    requires { slot < SLOTS }
+    ensures { EachDrops (λ F. IsTrue (F slot)) nodes.old nodes.new }
+{
+    for place in 0..nodes.len() {
+        let node = &mut nodes[place];
+        node.label.drop_slot(slot);
+    }
+}
+
+impl Nodes {
+    /// The facts that were met.
+    pub fn met(&self, alloc: Global) -> Result<Vec<Fact>, AllocError>
+        ensures { IfOk result (λ met. met.items ≡ facts_of self.now.list.items) }
+    {
+        self.list.iter().map(|node| node.fact).collect(alloc)
+    }
+
+    /// Whether the fact was met.
+    pub fn is_met(&self, fact: &Fact) -> bool
+        ensures { result ≡ list_any (λ n. is_same n.fact fact.now) self.now.list.items }
+    {
+        self.list.iter().any(|node| is_same_fact(&node.fact, fact))
+    }
+
+    /// Whether an environment of the fact's label is a subset.
+    fn has_within(&self, fact: &Fact, env: &Env) -> bool
+        ensures { IsTrue result ↔ IsCovered (KeptIn self.now (Some fact.now)) (members env.now) }
+    {
+        match place_of(&self.list, fact) {
+            Some(place) => self.list[place].label.covers(env),
+            None => false,
+        }
+    }
+
+    /// Whether an environment there, or a nogood, is a subset.
+    pub fn reaches(&self, due: &Insertion) -> bool
+        ensures { IsTrue result ↔ IsReached (KeptIn self.now) due.now.target (members due.now.env) }
+    {
+        if self.nogoods.covers(&due.env) {
+            return true;
+        }
+        match &due.target {
+            Some(fact) => self.has_within(fact, &due.env),
+            None => false,
+        }
+    }
+
+    /// The fact is met, with an empty label. After an error all is as before.
+    pub fn meet(&mut self, alloc: Global, fact: &Fact) -> Result<(), AllocError>
+        ensures ok { OnOk result (self.new.list.items ≡ self.old.list.items ++ record { fact = fact.now; label = [] } ∷ []) }
+        ensures err { OnErr result (self.new.list.items ≡ self.old.list.items) }
+        ensures nogoods { self.new.nogoods ≡ self.old.nogoods }
+    {
+        let node = Node {
+            fact: *fact,
+            label: Label::new(alloc),
+        };
+        self.list.push(node)?;
+        Ok(())
+    }
+
+    // A nogood that none of the nogoods is a subset of is put in, and what contains it goes.
+    fn put_nogood(&mut self, env: &Env) -> Result<(), AllocError>
+        requires { IsReached (KeptIn self.old) None (members env.now) → ⊥ }
+        ensures ok { OnOk result (IsPut None (members env.now) (KeptIn self.old) (KeptIn self.new)) }
+        ensures err { OnErr result (self.new.list.items ≡ self.old.list.items) }
+        ensures err_nogoods { OnErr result (self.new.nogoods ≡ self.old.nogoods) }
+        ensures facts { facts_of self.new.list.items ≡ facts_of self.old.list.items }
+    {
+        self.nogoods.insert(*env)?;
+        drop_over(&mut self.list, env);
+        Ok(())
+    }
+
+    // An environment that none of the fact's label, and no nogood, is a subset of is put into the label.
+    fn put_at(&mut self, fact: &Fact, env: &Env) -> Result<(), AllocError>
+        requires met { IsMet self.old.list.items fact.now }
+        requires out { IsReached (KeptIn self.old) (Some fact.now) (members env.now) → ⊥ }
+        ensures ok { OnOk result (IsPut (Some fact.now) (members env.now) (KeptIn self.old) (KeptIn self.new)) }
+        ensures err { OnErr result (self.new.list.items ≡ self.old.list.items) }
+        ensures nogoods { self.new.nogoods ≡ self.old.nogoods }
+        ensures facts { facts_of self.new.list.items ≡ facts_of self.old.list.items }
+    {
+        let place = place_of(&self.list, fact).unwrap();
+        let node = &mut self.list[place];
+        node.label.insert(*env)?;
+        Ok(())
+    }
+
+    /// Puts in what is due and not reached. What contains it goes: at the fact, or everywhere where it is a nogood.
+    /// After an error all is as before.
+    pub fn put(&mut self, due: &Insertion) -> Result<(), AllocError>
+        requires met { (f : Fact) → due.now.target ≡ Some f → IsMet self.old.list.items f }
+        requires out { IsReached (KeptIn self.old) due.now.target (members due.now.env) → ⊥ }
+        ensures ok { OnOk result (IsPut due.now.target (members due.now.env) (KeptIn self.old) (KeptIn self.new)) }
+        ensures err { OnErr result (self.new.list.items ≡ self.old.list.items) }
+        ensures err_nogoods { OnErr result (self.new.nogoods ≡ self.old.nogoods) }
+        ensures facts { facts_of self.new.list.items ≡ facts_of self.old.list.items }
+    {
+        match &due.target {
+            Some(fact) => self.put_at(fact, &due.env),
+            None => self.put_nogood(&due.env),
+        }
+    }
+
+    /// The label of the fact, if it was met.
+    pub fn label(&self, fact: &Fact) -> Option<&Label>
+        ensures { MatchOption result (label_in self.now.list.items fact.now ≡ []) (λ l. l.now ≡ label_in self.now.list.items fact.now) }
+    {
+        match place_of(&self.list, fact) {
+            Some(place) => Some(&self.list[place].label),
+            None => None,
+        }
+    }
+
+    /// The facts that were met first stay, with the environments that lack the slot, and so do the nogoods that lack it.
+    pub fn take_back(&mut self, slot: u16, met: usize)
+        requires { slot < SLOTS }
+        ensures labels { EachDrops (λ F. IsTrue (F slot)) (take met self.old.list.items) self.new.list.items }
+        ensures nogoods { Drops (HasMember self.old.nogoods) (HasMember self.new.nogoods) (λ F. IsTrue (F slot)) }
+    {
+        self.list.truncate(met);
+        drop_slot(&mut self.list, slot);
+        self.nogoods.drop_slot(slot);
+    }
+}

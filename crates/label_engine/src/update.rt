@@ -1,0 +1,475 @@
+// Bringing labels up to date with one assumption more: what follows is inferred until nothing waits.
+
+ghost use Rattle.std.specs.Prelude.{IsTrue, ◌≡◌, ℕ, ◌^◌, ◌<◌, ◌++◌, ◌∷◌, [], List, filter, length, IfOk, IfErr, IfSome, IsSome, Some, map, take};
+ghost use Rattle.environment_sets.specs.declared.environment.TheConstants.{SLOTS};
+ghost use Rattle.environment_sets.specs.Members.{members, HasMember};
+ghost use Rattle.environment_sets.specs.Lists.{AreDistinct};
+ghost use Rattle.environment_sets.specs.Families.{Drops};
+ghost use Rattle.circuit_model.specs.declared.model.Instance.{Instance};
+ghost use Rattle.circuit_model.specs.declared.model.Assumption.TheVariants.{Part, Reading};
+ghost use Rattle.propagation.specs.Uncovered.{Fits, TargetFits};
+ghost use Rattle.propagation.specs.Propagating.{IsReached};
+ghost use Rattle.label_engine.specs.Nodes.{facts_of, KeptIn, IsMet, EachDrops};
+ghost use Rattle.label_engine.specs.Update.{is_same_target, goes_from, item_at, some_fact, goes_from_none, due_with, items_with, items_from, other_fact, made_by, HasUnions, HasUnionsWith, HasMet, AreKeptAlike, IsPutThere, Propagates, DueAlso, WaitsAlso, CarriesOn, IsReady, IsUnion, Survives, before, IsAtRest, IsTakenBack};
+ghost use Rattle.assumption_slots.specs.Slots.{stock};
+
+use crate::nodes::{Insertion, Nodes, is_same_fact};
+use assumption_slots::Slots;
+use circuit_model::{Assumption, Fact};
+use environment_sets::Env;
+use inference_search::{Inferred, find_made_by, find_uses};
+use label_algebra::Label;
+use propagation_agenda::{Agenda, Picker};
+use std::alloc::{AllocError, Global};
+
+/// An inference that waits, with an environment that is new at one of its facts.
+#[derive(Clone, Copy)]
+pub struct Pending {
+    pub inferred: Inferred,
+    pub at: Fact,
+    pub env: Env,
+}
+
+/// What is kept, what is due and what waits, while labels are brought up to date with the assumption at a slot. Where
+/// nothing is under way, nothing is due and nothing waits.
+#[derive(Drop)]
+pub struct Update {
+    pub slot: u16,
+    pub nodes: Nodes,
+    pub recorded: Vec<Inferred>,
+    pub due: Vec<Insertion>,
+    pub agenda: Agenda<Pending>,
+}
+
+// Whether the two are the same target.
+fn is_target(a: &Option<Fact>, b: &Option<Fact>) -> bool
+    ensures { result ≡ is_same_target a.now b.now }
+{
+    match (a, b) {
+        (None, None) => true,
+        (Some(x), Some(y)) => is_same_fact(x, y),
+        _ => false,
+    }
+}
+
+// Whether the fact is one that the inference goes from.
+fn uses(inferred: &Inferred, fact: &Fact) -> bool
+    ensures { result ≡ goes_from fact.now inferred.now }
+{
+    is_target(&inferred.first, &Some(*fact)) || is_target(&inferred.second, &Some(*fact))
+}
+
+// Each of the inferences that goes from the fact waits, with the environment.
+fn wait_at_uses(
+    agenda: &mut Agenda<Pending>,
+    recorded: &[Inferred],
+    fact: &Fact,
+    env: &Env,
+) -> Result<(), AllocError>
+    ensures { IfOk result (λ _. agenda.new ≡ agenda.old ++ map (item_at fact.now env.now) (filter (goes_from fact.now) recorded.now)) }
+{
+    for inferred in recorded {
+        if uses(inferred, fact) {
+            agenda.push(Pending {
+                inferred: *inferred,
+                at: *fact,
+                env: *env,
+            })?;
+        }
+    }
+    Ok(())
+}
+
+// After an error a front of what was found is recorded.
+fn record_all(recorded: &mut Vec<Inferred>, found: &[Inferred]) -> Result<(), AllocError>
+    ensures ok { IfOk result (λ _. recorded.new.items ≡ recorded.old.items ++ found.now) }
+    ensures partly { (k : ℕ) × (recorded.new.items ≡ recorded.old.items ++ take k found.now) }
+{
+    for inferred in found {
+        recorded.push(*inferred)?;
+    }
+    Ok(())
+}
+
+// What the inferences from no fact lead to is due, with the environment.
+fn due_from_none(due: &mut Vec<Insertion>, found: &[Inferred], env: &Env) -> Result<(), AllocError>
+    ensures { IfOk result (λ _. due.new.items ≡ due.old.items ++ map (due_with env.now) (filter goes_from_none found.now)) }
+{
+    for inferred in found {
+        if fact_of(inferred).is_none() {
+            due.push(Insertion {
+                target: inferred.to,
+                env: *env,
+            })?;
+        }
+    }
+    Ok(())
+}
+
+// One of the facts that the inference goes from.
+fn fact_of(inferred: &Inferred) -> Option<Fact>
+    ensures { result ≡ some_fact inferred.now }
+{
+    inferred.first.or(inferred.second)
+}
+
+// The inference waits with each environment of the label.
+fn wait_with_each(
+    agenda: &mut Agenda<Pending>,
+    inferred: &Inferred,
+    at: &Fact,
+    label: &Label,
+) -> Result<(), AllocError>
+    ensures { IfOk result (λ _. agenda.new ≡ agenda.old ++ map (λ e. item_at at.now e inferred.now) label.now) }
+{
+    for env in label.members() {
+        agenda.push(Pending {
+            inferred: *inferred,
+            at: *at,
+            env: *env,
+        })?;
+    }
+    Ok(())
+}
+
+// The inference waits with each environment of one of its facts, if it goes from any.
+fn wait_at_one(
+    agenda: &mut Agenda<Pending>,
+    nodes: &Nodes,
+    inferred: &Inferred,
+) -> Result<(), AllocError>
+    ensures { IfOk result (λ _. agenda.new ≡ agenda.old ++ items_with nodes.now.list.items inferred.now (some_fact inferred.now)) }
+{
+    let Some(fact) = fact_of(inferred) else {
+        return Ok(());
+    };
+    match nodes.label(&fact) {
+        Some(label) => wait_with_each(agenda, inferred, &fact, label),
+        None => Ok(()),
+    }
+}
+
+// The same for each of the inferences.
+fn wait_at_each(
+    agenda: &mut Agenda<Pending>,
+    nodes: &Nodes,
+    found: &[Inferred],
+) -> Result<(), AllocError>
+    ensures { IfOk result (λ _. agenda.new ≡ agenda.old ++ items_from nodes.now.list.items found.now) }
+{
+    for inferred in found {
+        wait_at_one(agenda, nodes, inferred)?;
+    }
+    Ok(())
+}
+
+// Of the facts that the inference goes from, the one other than this one.
+fn other_of(inferred: &Inferred, fact: &Fact) -> Option<Fact>
+    ensures { result ≡ other_fact inferred.now fact.now }
+{
+    if is_target(&inferred.first, &Some(*fact)) {
+        inferred.second
+    } else {
+        inferred.first
+    }
+}
+
+// The slot of the maker, if there is one.
+fn made_by(maker: Option<u16>) -> Env
+    requires { IfSome maker (λ slot. slot < SLOTS) }
+    ensures { members result ≡ made_by maker }
+{
+    match maker {
+        None => Env::empty(),
+        Some(slot) => Env::empty().with(slot),
+    }
+}
+
+// The union of the item's environment, another and the maker.
+fn union_of(item: &Pending, other: Env) -> Insertion
+    requires { IfSome item.now.inferred.maker (λ slot. slot < SLOTS) }
+    ensures { IsUnion item.now (members other) result }
+{
+    Insertion {
+        target: item.inferred.to,
+        env: item.env.union(other).union(made_by(item.inferred.maker)),
+    }
+}
+
+// For proofs alone: the fields of a fact fit their types.
+fn target_fits(target: &Option<Fact>)
+    ensures { TargetFits target.now }
+{
+    if let Some(fact) = target {
+        fact_fits(*fact);
+    }
+}
+
+// For proofs alone: the same for a fact by value.
+fn fact_fits(fact: Fact)
+    ensures { Fits fact }
+{
+    let _fact = fact;
+}
+
+// For proofs alone: fewer than 2 ^ 64 items wait, as they lie in memory.
+fn length_fits(agenda: &Agenda<Pending>)
+    ensures { length agenda.now < 2 ^ 64 }
+{
+    let _length = agenda.len();
+}
+
+// For proofs alone: how many slots there are.
+fn slots_fit(slots: &Slots)
+    ensures { length slots.now ≡ SLOTS }
+{
+    let _count = slots.count();
+}
+
+// The unions with each environment of the other fact's label are due.
+fn add_unions_with(
+    due: &mut Vec<Insertion>,
+    label: &Label,
+    item: &Pending,
+) -> Result<(), AllocError>
+    requires { IfSome item.now.inferred.maker (λ slot. slot < SLOTS) }
+    ensures { IfOk result (λ _. HasUnionsWith item.now label.now due.old.items due.new.items) }
+{
+    for env in label.members() {
+        due.push(union_of(item, *env))?;
+    }
+    Ok(())
+}
+
+// The unions of the item with what is kept at the other fact, if there is one, are due.
+fn add_unions(due: &mut Vec<Insertion>, nodes: &Nodes, item: &Pending) -> Result<(), AllocError>
+    requires { IfSome item.now.inferred.maker (λ slot. slot < SLOTS) }
+    ensures { IfOk result (λ _. HasUnions item.now nodes.now due.old.items due.new.items) }
+{
+    match other_of(&item.inferred, &item.at) {
+        None => {
+            due.push(union_of(item, Env::empty()))?;
+            Ok(())
+        }
+        Some(fact) => match nodes.label(&fact) {
+            Some(label) => add_unions_with(due, label, item),
+            None => Ok(()),
+        },
+    }
+}
+
+impl Update {
+    // The fact is met, which it was not: the inferences that use it are recorded.
+    fn meet(&mut self, alloc: Global, slots: &Slots, fact: &Fact) -> Result<(), AllocError>
+        requires { IsMet self.old.nodes.list.items fact.now → ⊥ }
+        ensures ok { IfOk result (λ _. HasMet slots.now fact.now self.old self.new) }
+        ensures survives { Survives self.old self.new }
+        ensures kept { AreKeptAlike self.old self.new }
+    {
+        let met = self.nodes.met(alloc)?;
+        let found = find_uses(alloc, slots, &met, *fact)?;
+        record_all(&mut self.recorded, &found)?;
+        self.nodes.meet(alloc, fact)
+    }
+
+    // What is due is put in, and waits at each inference that goes from there.
+    fn put_there(&mut self, due: &Insertion) -> Result<(), AllocError>
+        requires met { (f : Fact) → due.now.target ≡ Some f → IsMet self.old.nodes.list.items f }
+        requires out { IsReached (KeptIn self.old.nodes) due.now.target (members due.now.env) → ⊥ }
+        ensures ok { IfOk result (λ _. IsPutThere due.now self.old self.new) }
+        ensures err { IfErr result (λ _. AreKeptAlike self.old self.new) }
+        ensures recorded { self.new.recorded ≡ self.old.recorded }
+        ensures met { facts_of self.new.nodes.list.items ≡ facts_of self.old.nodes.list.items }
+        ensures slot { self.new.slot ≡ self.old.slot }
+    {
+        if let Some(fact) = &due.target {
+            wait_at_uses(&mut self.agenda, &self.recorded, fact, &due.env)?;
+        }
+        self.nodes.put(due)
+    }
+
+    // Where the target is a fact that was not met, it is met.
+    fn meet_target(
+        &mut self,
+        alloc: Global,
+        slots: &Slots,
+        due: &Insertion,
+    ) -> Result<(), AllocError>
+        requires { DueAlso slots.now due.now self.old }
+        ensures ok { IfOk result (λ _. IsReady slots.now due.now self.old self.new) }
+        ensures survives { Survives self.old self.new }
+        ensures kept { AreKeptAlike self.old self.new }
+    {
+        if let Some(fact) = &due.target {
+            if !self.nodes.is_met(fact) {
+                return self.meet(alloc, slots, fact);
+            }
+        }
+        Ok(())
+    }
+
+    // What is due is put in, where it is not reached already.
+    fn put_in(&mut self, alloc: Global, slots: &Slots, due: &Insertion) -> Result<(), AllocError>
+        requires { DueAlso slots.now due.now self.old }
+        ensures ok { IfOk result (λ _. CarriesOn slots.now self.old self.new) }
+        ensures due_same { IfOk result (λ _. self.new.due.items ≡ self.old.due.items) }
+        ensures survives { Survives self.old self.new }
+    {
+        if self.nodes.reaches(due) {
+            return Ok(());
+        }
+        self.meet_target(alloc, slots, due)?;
+        self.put_there(due)?;
+        target_fits(&due.target);
+        length_fits(&self.agenda);
+        Ok(())
+    }
+
+    // All that is due is put in.
+    fn put_all_in(&mut self, alloc: Global, slots: &Slots) -> Result<(), AllocError>
+        requires { Propagates slots.now self.old }
+        ensures ok { IfOk result (λ _. CarriesOn slots.now self.old self.new) }
+        ensures none_due { IfOk result (λ _. self.new.due.items ≡ []) }
+        ensures survives { Survives self.old self.new }
+    {
+        while let Some(due) = self.due.pop() {
+            self.put_in(alloc, slots, &due)?;
+        }
+        Ok(())
+    }
+
+    // What waits is carried out: its unions are due, and all that is due is put in.
+    fn carry_out(&mut self, alloc: Global, slots: &Slots, item: &Pending) -> Result<(), AllocError>
+        requires { WaitsAlso slots.now item.now self.old }
+        ensures ok { IfOk result (λ _. CarriesOn slots.now self.old self.new) }
+        ensures none_due { IfOk result (λ _. self.new.due.items ≡ []) }
+        ensures survives { Survives self.old self.new }
+    {
+        slots_fit(slots);
+        add_unions(&mut self.due, &self.nodes, item)?;
+        self.put_all_in(alloc, slots)
+    }
+
+    // What waits is carried out, in the picker's order, until nothing waits.
+    fn settle<P: Picker>(
+        &mut self,
+        alloc: Global,
+        slots: &Slots,
+        picker: &mut P,
+    ) -> Result<(), AllocError>
+        requires propagates { Propagates slots.now self.old }
+        requires once { AreDistinct (facts_of self.old.nodes.list.items) }
+        ensures ok { IfOk result (λ _. IsAtRest (stock slots.now) self.new) }
+        ensures survives { Survives self.old self.new }
+    {
+        self.put_all_in(alloc, slots)?;
+        'picks: while !self.agenda.is_empty() {
+            let place = picker.pick(self.agenda.len());
+            let item = self.agenda.take_at(place);
+            self.carry_out(alloc, slots, &item)?;
+        }
+        Ok(())
+    }
+
+    // A reading begins: its own environment is due at its fact.
+    fn begin_reading(&mut self, slots: &Slots, fact: &Fact) -> Result<(), AllocError>
+        requires below { self.old.slot < SLOTS }
+        requires reads { stock slots.now self.old.slot ≡ Some (Reading fact.now) }
+        requires before { IsAtRest (before slots.now self.old.slot) self.old }
+        ensures ok { IfOk result (λ _. Propagates slots.now self.new) }
+        ensures survives { Survives self.old self.new }
+    {
+        let first = Insertion {
+            target: Some(*fact),
+            env: made_by(Some(self.slot)),
+        };
+        self.due.push(first)?;
+        Ok(())
+    }
+
+    // A component begins: its inferences are recorded. What they lead to from no fact is due, and the others wait at each
+    // environment of one of their facts.
+    fn begin_part(&mut self, alloc: Global, slots: &Slots) -> Result<(), AllocError>
+        requires below { self.old.slot < SLOTS }
+        requires works { (part : List Instance) × (stock slots.now self.old.slot ≡ Some (Part part)) }
+        requires before { IsAtRest (before slots.now self.old.slot) self.old }
+        ensures ok { IfOk result (λ _. Propagates slots.now self.new) }
+        ensures survives { Survives self.old self.new }
+    {
+        let met = self.nodes.met(alloc)?;
+        let found = find_made_by(alloc, slots, &met, self.slot)?;
+        record_all(&mut self.recorded, &found)?;
+        let env = made_by(Some(self.slot));
+        due_from_none(&mut self.due, &found, &env)?;
+        wait_at_each(&mut self.agenda, &self.nodes, &found)
+    }
+
+    // The assumption at the slot begins.
+    fn begin(&mut self, alloc: Global, slots: &Slots) -> Result<(), AllocError>
+        requires below { self.old.slot < SLOTS }
+        requires there { IsSome (stock slots.now self.old.slot) }
+        requires before { IsAtRest (before slots.now self.old.slot) self.old }
+        ensures ok { IfOk result (λ _. Propagates slots.now self.new) }
+        ensures survives { Survives self.old self.new }
+    {
+        match slots.at(self.slot).unwrap() {
+            Assumption::Reading(fact) => self.begin_reading(slots, fact),
+            Assumption::Part(_) => self.begin_part(alloc, slots),
+        }
+    }
+
+    // The assumption at the slot is worked in, until nothing waits.
+    fn work_in<P: Picker>(
+        &mut self,
+        alloc: Global,
+        slots: &Slots,
+        picker: &mut P,
+    ) -> Result<(), AllocError>
+        requires below { self.old.slot < SLOTS }
+        requires there { IsSome (stock slots.now self.old.slot) }
+        requires before { IsAtRest (before slots.now self.old.slot) self.old }
+        ensures ok { IfOk result (λ _. IsAtRest (stock slots.now) self.new) }
+        ensures survives { Survives self.old self.new }
+    {
+        self.begin(alloc, slots)?;
+        self.settle(alloc, slots, picker)
+    }
+
+    // What has the slot goes, and so do the facts that were met and the inferences that were recorded since.
+    fn take_back(&mut self, met: usize, recorded: usize)
+        requires { self.old.slot < SLOTS }
+        ensures labels { EachDrops (λ F. IsTrue (F self.old.slot)) (take met self.old.nodes.list.items) self.new.nodes.list.items }
+        ensures nogoods { Drops (HasMember self.old.nodes.nogoods) (HasMember self.new.nodes.nogoods) (λ F. IsTrue (F self.old.slot)) }
+        ensures recorded { self.new.recorded.items ≡ take recorded self.old.recorded.items }
+        ensures due { self.new.due.items ≡ [] }
+        ensures agenda { self.new.agenda ≡ [] }
+        ensures slot { self.new.slot ≡ self.old.slot }
+    {
+        self.nodes.take_back(self.slot, met);
+        self.recorded.truncate(recorded);
+        self.due.clear();
+        self.agenda.clear();
+    }
+
+    /// The assumption at the slot is worked in. After an error all is as without it.
+    pub fn assume<P: Picker>(
+        &mut self,
+        alloc: Global,
+        slots: &Slots,
+        picker: &mut P,
+    ) -> Result<(), AllocError>
+        requires below { self.old.slot < SLOTS }
+        requires there { IsSome (stock slots.now self.old.slot) }
+        requires before { IsAtRest (before slots.now self.old.slot) self.old }
+        ensures ok { IfOk result (λ _. IsAtRest (stock slots.now) self.new) }
+        ensures err { IfErr result (λ _. IsTakenBack slots.now self.old self.new) }
+    {
+        let met = self.nodes.list.len();
+        let recorded = self.recorded.len();
+        let outcome = self.work_in(alloc, slots, picker);
+        if outcome.is_err() {
+            self.take_back(met, recorded);
+        }
+        outcome
+    }
+}

@@ -1,0 +1,243 @@
+// Lines that are refused, each by the first check that applies.
+
+use crate::running::{NEVER, NOT_BUILT, SESSION, ran, session};
+use bench_cli::Status;
+use itoa::Buffer;
+use std::alloc::Global;
+use std::process::Abort;
+use std::test::Fail;
+
+// The lines of one session, with their replies.
+const IN_ORDER: [(&[u8], &[u8]); 24] = [
+    (b"net A 4", b"ok\n"),
+    (b"net A 4", b"no 20 name taken\n"),
+    (b"net B 33", b"no 22 bad width\n"),
+    (b"net B 0", b"no 22 bad width\n"),
+    (b"net B 8", b"ok\n"),
+    (b"net 9B 8", b"no 50 not built\n"),
+    (b"buf U A Q", b"no 21 unknown net\n"),
+    (b"buf U A B", b"no 23 widths disagree\n"),
+    (b"measure A 16", b"no 25 value does not fit\n"),
+    (b"measure A 15", b"ok\n"),
+    (b"measure A 15", b"no 40 already measured\n"),
+    // of several checks the first
+    (b"measure A 16", b"no 25 value does not fit\n"),
+    (b"measure Q 16", b"no 21 unknown net\n"),
+    (b"label Q", b"no 21 unknown net\n"),
+    (b"net A 33", b"no 20 name taken\n"),
+    (b"buf B Q A", b"no 20 name taken\n"),
+    (b"buf U B Q", b"no 21 unknown net\n"),
+    (b"const A Q 16", b"no 20 name taken\n"),
+    (b"const U Q 16", b"no 21 unknown net\n"),
+    (b"const U A 16", b"no 25 value does not fit\n"),
+    (b"const U A 15", b"ok\n"),
+    (b"net U 33", b"no 20 name taken\n"),
+    (b"mul M A A B", b"ok\n"),
+    (b"mul N A B B", b"no 23 widths disagree\n"),
+];
+
+#[test]
+fn each_by_its_first_check(rt: HostRuntime) -> Result<(), Fail> {
+    let alloc = rt.alloc();
+    let mut text = Vec::new(alloc);
+    let mut want = Vec::new(alloc);
+    for (line, reply) in IN_ORDER {
+        text.extend_from_slice(line)?;
+        text.push(b'\n')?;
+        want.extend_from_slice(reply)?;
+    }
+    let (status, sink) = ran(alloc, "run", &text, 1024, NEVER, NEVER)?;
+    assert!(rt; status == Status::SomeRefused);
+    assert!(rt; sink.held() == want.as_slice());
+    Ok(())
+}
+
+// Lines that are refused after a net N of width 4 and the lines of `SESSION`, with their replies.
+const REFUSED: [(&[u8], &[u8]); 38] = [
+    (b"net C 0", b"no 22 bad width\n"),
+    (b"net C 33", b"no 22 bad width\n"),
+    (b"net C", b"no 50 not built\n"),
+    (b"net C 8 8", b"no 50 not built\n"),
+    (b"net 9C 8", b"no 50 not built\n"),
+    (b"net C x", b"no 50 not built\n"),
+    (b"add S A B Z", b"no 20 name taken\n"),
+    (b"add A A B Z", b"no 20 name taken\n"),
+    (b"add T A B Q", b"no 21 unknown net\n"),
+    (b"add T A B N", b"no 23 widths disagree\n"),
+    (b"add T A B", b"no 50 not built\n"),
+    // another number of words
+    (b"buf T A", b"no 50 not built\n"),
+    (b"not T A B Z", b"no 50 not built\n"),
+    (b"nor T A Z", b"no 50 not built\n"),
+    (b"xnor T A B Z Z", b"no 50 not built\n"),
+    (b"const K Z", b"no 50 not built\n"),
+    (b"const K Z 1 1", b"no 50 not built\n"),
+    // no name, no number, no net
+    (b"buf 9T A Z", b"no 50 not built\n"),
+    (b"and T A 9B Z", b"no 50 not built\n"),
+    (b"const K Z x", b"no 50 not built\n"),
+    (b"const K Z 00000000001", b"no 50 not built\n"),
+    (b"const K S 1", b"no 21 unknown net\n"),
+    (b"or T A S Z", b"no 21 unknown net\n"),
+    // the value does not fit, or the widths disagree
+    (b"const K N 16", b"no 25 value does not fit\n"),
+    (b"not T A N", b"no 23 widths disagree\n"),
+    (b"nand T A N Z", b"no 23 widths disagree\n"),
+    (b"mul T A B Z", b"no 23 widths disagree\n"),
+    // not yet there
+    (b"reg R A Z 0", b"no 50 not built\n"),
+    (b"measure A@0 5", b"no 50 not built\n"),
+    (b"measure A", b"no 50 not built\n"),
+    (b"label A@0", b"no 50 not built\n"),
+    (b"conflicts", b"no 50 not built\n"),
+    (b"frob", b"no 50 not built\n"),
+    // no net, a measured cell, and a value that does not fit
+    (b"measure Q 1", b"no 21 unknown net\n"),
+    (b"measure S 1", b"no 21 unknown net\n"),
+    (b"measure A 5", b"no 40 already measured\n"),
+    (b"measure Z 256", b"no 25 value does not fit\n"),
+    (b"label Q", b"no 21 unknown net\n"),
+];
+
+#[test]
+fn refused_lines(rt: HostRuntime) -> Result<(), Fail> {
+    let alloc = rt.alloc();
+    for (line, reply) in REFUSED {
+        let mut text = Vec::from_slice(alloc, b"net N 4\n")?;
+        let (front, replies) = session(alloc, SESSION.len())?;
+        text.extend_from_slice(&front)?;
+        text.push(b'\n')?;
+        text.extend_from_slice(line)?;
+        text.extend_from_slice(b"\nlabel Z\n")?;
+        let mut want = Vec::from_slice(alloc, b"ok\n")?;
+        want.extend_from_slice(&replies)?;
+        want.extend_from_slice(reply)?;
+        want.extend_from_slice(b"Z=12 {S;A,B}\nok\n")?;
+        let (status, sink) = ran(alloc, "run", &text, 1024, NEVER, NEVER)?;
+        assert!(rt; status == Status::SomeRefused, "{line:?}");
+        assert!(rt; sink.held() == want.as_slice(), "{line:?}");
+    }
+    Ok(())
+}
+
+// Puts a line for each number below the count: the front, the number and the rest.
+fn put_lines(text: &mut Vec<u8>, front: &[u8], count: u16, rest: &[u8]) -> Result<(), Fail> {
+    for number in 0..count {
+        let mut buffer = Buffer::new();
+        text.extend_from_slice(front)?;
+        text.extend_from_slice(buffer.format(number).as_bytes())?;
+        text.extend_from_slice(rest)?;
+    }
+    Ok(())
+}
+
+// Each of the lines is answered `ok`, but for the last, which has the reply.
+fn last_is_refused(
+    rt: &impl Abort,
+    alloc: Global,
+    text: &[u8],
+    accepted: u16,
+    reply: &[u8],
+) -> Result<(), Fail> {
+    let mut want = Vec::new(alloc);
+    for _line in 0..accepted {
+        want.extend_from_slice(b"ok\n")?;
+    }
+    want.extend_from_slice(reply)?;
+    let (status, sink) = ran(alloc, "run", text, 1024, NEVER, NEVER)?;
+    assert!(rt; status == Status::SomeRefused);
+    assert!(rt; sink.held() == want.as_slice());
+    Ok(())
+}
+
+#[test]
+fn a_net_too_many(rt: HostRuntime) -> Result<(), Fail> {
+    let alloc = rt.alloc();
+    let mut text = Vec::new(alloc);
+    put_lines(&mut text, b"net N", 256, b" 1\n")?;
+    text.extend_from_slice(b"net M 1\n")?;
+    last_is_refused(&rt, alloc, &text, 256, b"no 30 nets full\n")
+}
+
+#[test]
+fn a_component_too_many(rt: HostRuntime) -> Result<(), Fail> {
+    let alloc = rt.alloc();
+    let mut text = Vec::from_slice(alloc, b"net A 1\nnet B 1\n")?;
+    put_lines(&mut text, b"buf U", 256, b" A B\n")?;
+    text.extend_from_slice(b"buf V A B\n")?;
+    last_is_refused(&rt, alloc, &text, 258, b"no 31 components full\n")
+}
+
+// The cell is measured already, and the measurements are full: that comes first.
+#[test]
+fn a_measurement_too_many(rt: HostRuntime) -> Result<(), Fail> {
+    let alloc = rt.alloc();
+    let mut text = Vec::new(alloc);
+    put_lines(&mut text, b"net N", 256, b" 1\n")?;
+    put_lines(&mut text, b"measure N", 256, b" 1\n")?;
+    text.extend_from_slice(b"measure N0 1\n")?;
+    last_is_refused(&rt, alloc, &text, 512, b"no 33 measurements full\n")
+}
+
+// The line, and then the same line with a byte more, that is read no more.
+fn longest(
+    rt: &impl Abort,
+    alloc: Global,
+    front: &[u8],
+    byte: u8,
+    count: u16,
+    rest: &[u8],
+) -> Result<(), Fail> {
+    let mut text = Vec::new(alloc);
+    for more in 0..2 {
+        text.extend_from_slice(front)?;
+        for _byte in 0..usize::from(count) + more {
+            text.push(byte)?;
+        }
+        text.extend_from_slice(rest)?;
+    }
+    last_is_refused(rt, alloc, &text, 1, NOT_BUILT)
+}
+
+#[test]
+fn the_longest_name(rt: HostRuntime) -> Result<(), Fail> {
+    longest(&rt, rt.alloc(), b"net ", b'A', 32, b" 4\n")
+}
+
+#[test]
+fn the_longest_line(rt: HostRuntime) -> Result<(), Fail> {
+    longest(&rt, rt.alloc(), b"net A 4", b' ', 1024 - 7, b"\n")
+}
+
+#[test]
+fn silent_lines(rt: HostRuntime) -> Result<(), Fail> {
+    let alloc = rt.alloc();
+    let mut longest = vec![in alloc; b'#'; 1024]?;
+    let (status, sink) = ran(alloc, "run", &longest, 1024, NEVER, NEVER)?;
+    assert!(rt; status == Status::Done);
+    assert!(rt; sink.held().is_empty());
+    longest.push(b'#')?;
+    let texts: [(&[u8], bool); 9] = [
+        (b"", true),
+        (b"\n", true),
+        (b" #", true),
+        (b"\t # ~\r\n\n", true),
+        (b"a #", false),
+        (b"#\x0b", false),
+        (b"# \x7f\n", false),
+        (b"#\x80", false),
+        (&longest, false),
+    ];
+    for (i, (text, is_silent)) in texts.iter().enumerate() {
+        let (status, sink) = ran(alloc, "run", text, 1024, NEVER, NEVER)?;
+        let want = if *is_silent {
+            Status::Done
+        } else {
+            Status::SomeRefused
+        };
+        assert!(rt; status == want, "text {i}");
+        assert!(rt; sink.held().is_empty() == *is_silent, "text {i}");
+        assert!(rt; NOT_BUILT.starts_with(sink.held()), "text {i}");
+    }
+    Ok(())
+}
