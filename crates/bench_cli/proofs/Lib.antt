@@ -1,5 +1,4 @@
 pub mod Lines
-pub mod Words
 pub mod Runs
 pub mod Sessions
 pub mod Running
@@ -10,6 +9,5 @@ pub mod Nets
 pub mod Putting
 pub mod Joining
 pub mod Listing
-pub mod Asking
 pub mod LabelLines
 pub mod Remembered

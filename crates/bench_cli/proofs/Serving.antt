@@ -1,29 +1,28 @@
 -- Lines that are refused whatever the state is.
-use Rattle.std.proofs.Common.{ℕ, ◌<◌, List, length, Ok, refl, sym, subst, arith}
+use Rattle.std.proofs.Common.{◌≡◌, ℕ, ◌<◌, List, length, Ok, Err, refl, sym, subst}
 use Rattle.bench_io.specs.Streams.{Telling}
 use Rattle.bench_io.specs.declared.limits.TheConstants.{LONGEST_LINE}
 use Rattle.bench_io.specs.Reading.{Reading, ReadsLine}
 use Rattle.bench_io.specs.declared.lines.Line.TheVariants.{TooLong}
-use Rattle.bench_cli.specs.Grammar.{words_of, IsReadable}
-use Rattle.bench_cli.specs.Requests.{Asks}
+use Rattle.netlist_text.specs.declared.faults.LineFault.{LineFault}
 use Rattle.bench_cli.specs.Replies.{Reply, Text, Refused, NoMemory}
 use Rattle.bench_cli.specs.Serving.{Serves}
 use Rattle.bench_cli.specs.Checks.{HasNoCause, late_checks_of}
-use Rattle.bench_cli.specs.declared.requests.Change.TheVariants.{Net, Add, Measure}
-use Rattle.bench_cli.specs.declared.requests.Query.TheVariants.{Label}
-use Rattle.bench_cli.specs.declared.requests.Request.{Request}
-use Rattle.bench_cli.specs.declared.requests.Request.TheVariants as request
-use Rattle.bench_cli.specs.State.{State, Takes, unreadable, refused, served}
+use Rattle.netlist_text.specs.declared.requests.Change.TheVariants.{Net, Add, Measure, Cycles, Retract, Undo, Cost, Stuck, Acts, Define, Pin, Inside, UseBlock}
+use Rattle.netlist_text.specs.declared.requests.Query.TheVariants.{Label, Conflicts, Diagnose, Probe, Explain, Why, Show, First, Modes, OpenBlock}
+use Rattle.netlist_text.specs.declared.requests.Request.{Request}
+use Rattle.netlist_text.specs.declared.requests.Request.TheVariants as request
+use Rattle.bench_cli.specs.State.{State, Takes, Reads, too_long, unreadable, refused, served}
 use Rattle.bench_cli.specs.Turns.{Steps}
 use Rattle.bench_cli.specs.declared.replies.Answer.TheVariants as answer
-use Rattle.bench_cli.specs.declared.replies.Refusal.TheVariants.{NotBuilt}
+use Rattle.bench_cli.specs.declared.replies.Refusal.TheVariants.{LineTooLong, Unreadable}
 
-pub takes_too_long : (s : State) (line : List ℕ) → LONGEST_LINE < length line → Takes s line (Refused NotBuilt) s
-takes_too_long s line h = unreadable (λ k. absurd (omega (arith, h, k.short))) refl refl
+pub takes_too_long : (s : State) (line : List ℕ) → LONGEST_LINE < length line → Takes s line (Refused LineTooLong) s
+takes_too_long s line h = too_long h refl refl
 
 -- a line was read that is too long
 pub steps_too_long : (first reader : Reading) (s : State) (t₀ t₁ : Telling) → ReadsLine first reader t₀ t₁ (Ok TooLong)
-    → Steps first reader s s t₀ t₁ (Ok (answer.Refused NotBuilt))
+    → Steps first reader s s t₀ t₁ (Ok (answer.Refused LineTooLong))
 steps_too_long first reader s t₀ t₁ k = record {
   read = k.read;
   consumed = k.consumed;
@@ -40,10 +39,33 @@ none_late s request.Nothing = tt
 none_late s (request.Change (Net name width)) = tt
 none_late s (request.Change (Add name kind nets)) = tt
 none_late s (request.Change (Measure net cycle value)) = tt
+none_late s (request.Change (Cycles count)) = tt
+none_late s (request.Change (Retract net cycle)) = tt
+none_late s (request.Change Undo) = tt
+none_late s (request.Change (Cost name cost)) = tt
+none_late s (request.Change (Stuck name value cost)) = tt
+none_late s (request.Change (Acts name kind cost)) = tt
+none_late s (request.Change (Define block)) = tt
+none_late s (request.Change (Pin block name width)) = tt
+none_late s (request.Change (Inside block name kind nets)) = tt
+none_late s (request.Change (UseBlock block name nets)) = tt
 none_late s (request.Query (Label net cycle)) = tt
+none_late s (request.Query Conflicts) = tt
+none_late s (request.Query Diagnose) = tt
+none_late s (request.Query Probe) = tt
+none_late s (request.Query (Explain net cycle value)) = tt
+none_late s (request.Query (Why number)) = tt
+none_late s (request.Query Show) = tt
+none_late s (request.Query (First number)) = tt
+none_late s (request.Query (Modes number)) = tt
+none_late s (request.Query (OpenBlock name)) = tt
 
--- a readable line that asks a request is answered as the request is
-pub takes : (old : State) (line : List ℕ) (request : Request) (reply : Reply) (new : State) → IsReadable line → Asks (words_of line) request → Serves old request reply new → Takes old line reply new
-takes old line request (Text text) new readable asks s = served readable request asks s.0 (none_late old request) s.1
-takes old line request (Refused refusal) new readable asks s = refused readable request asks refusal s.0 refl s.1
-takes old line request NoMemory new readable asks s = (record { readable = readable; request = request; asks = asks; free = s.0; wants = s.1 }, s.2)
+-- a line that asks a request is answered as the request is
+pub takes : (old : State) (line : List ℕ) (request : Request) (reply : Reply) (new : State) → Reads line (Ok request) → Serves old request reply new → Takes old line reply new
+takes old line request (Text text) new reads s = served request reads s.0 (none_late old request) s.1
+takes old line request (Refused refusal) new reads s = refused request reads refusal s.0 refl s.1
+takes old line request NoMemory new reads s = (record { request = request; asks = reads; free = s.0; wants = s.1 }, s.2)
+
+-- a line with a fault is refused by it
+pub takes_faulty : (s : State) (line : List ℕ) (fault : LineFault) (reply : Reply) → Reads line (Err fault) → reply ≡ Refused (Unreadable fault) → Takes s line reply s
+takes_faulty s line fault reply reads is = let P : Reply → Type 0 = λ r. Takes s line r s in subst P (sym is) (unreadable fault reads refl refl)

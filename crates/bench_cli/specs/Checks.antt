@@ -1,5 +1,5 @@
 -- The checks of requests.
-use Rattle.std.specs.Prelude.{◌≡◌, ◌⊎◌, ℕ, ◌+◌, ◌*◌, ◌^◌, nat_lt, nat_le, Bool, not, ◌&&◌, is_some, if◌then◌else◌, List, [], ◌∷◌, length, Option, Some, None}
+use Rattle.std.specs.Prelude.{◌≡◌, ◌⊎◌, ℕ, ◌+◌, ◌*◌, ◌^◌, nat_lt, nat_le, Bool, true, not, is_some, if◌then◌else◌, List, [], ◌∷◌, length, Option, Some, None}
 use Rattle.std.specs.List.{list_all}
 use Rattle.word_domain.specs.Words.{is_width}
 use Rattle.circuit_model.specs.declared.model.Kind.{Kind}
@@ -8,11 +8,11 @@ use Rattle.circuit_model.specs.Present.{PresentView, net_named, named_in, width_
 use Rattle.circuit_model.specs.declared.limits.TheConstants.{MOST_NETS, MOST_CELLS, MOST_PARTS, MOST_READINGS}
 use Rattle.bench_cli.specs.Presents.{State, place_of, places_of, widths_at, cell_of}
 use Rattle.bench_cli.specs.declared.replies.Refusal.{Refusal}
-use Rattle.bench_cli.specs.declared.replies.Refusal.TheVariants.{NameTaken, UnknownNet, BadWidth, WidthsDisagree, BadCycle, ValueDoesNotFit, NetsFull, ComponentsFull, CellsFull, MeasurementsFull, AlreadyMeasured}
-use Rattle.bench_cli.specs.declared.requests.Change.TheVariants.{Net, Add, Measure}
-use Rattle.bench_cli.specs.declared.requests.Query.TheVariants.{Label}
-use Rattle.bench_cli.specs.declared.requests.Request.{Request}
-use Rattle.bench_cli.specs.declared.requests.Request.TheVariants.{Nothing, Change, Query}
+use Rattle.bench_cli.specs.declared.replies.Refusal.TheVariants.{NameTaken, UnknownNet, BadWidth, WidthsDisagree, BadCycle, ValueDoesNotFit, NetsFull, ComponentsFull, CellsFull, MeasurementsFull, AlreadyMeasured, NotBuilt}
+use Rattle.netlist_text.specs.declared.requests.Change.TheVariants.{Net, Add, Measure, Cycles, Retract, Undo, Cost, Stuck, Acts, Define, Pin, Inside, UseBlock}
+use Rattle.netlist_text.specs.declared.requests.Query.TheVariants.{Label, Conflicts, Diagnose, Probe, Explain, Why, Show, First, Modes, OpenBlock}
+use Rattle.netlist_text.specs.declared.requests.Request.{Request}
+use Rattle.netlist_text.specs.declared.requests.Request.TheVariants.{Nothing, Change, Query}
 
 -- a refusal, and whether it applies
 pub record Check : Type 0 where
@@ -64,13 +64,36 @@ checks_of_reading s net cycle value =
     ∷ check AlreadyMeasured (is_some (reading_in s.readings (cell_of s net cycle)))
     ∷ []
 
+-- what is not answered yet
+abbrev pub not_built : List Check
+not_built = check NotBuilt true ∷ []
+
 -- The checks of a request before it asks for memory, in order.
 abbrev pub checks_of : State → Request → List Check
 checks_of s Nothing = []
 checks_of s (Change (Net name width)) = checks_of_net s.present name width
 checks_of s (Change (Add name kind nets)) = checks_of_part s.present name kind nets
 checks_of s (Change (Measure net cycle value)) = checks_of_reading s.present net cycle value
+checks_of s (Change (Cycles count)) = not_built
+checks_of s (Change (Retract net cycle)) = not_built
+checks_of s (Change Undo) = not_built
+checks_of s (Change (Cost name cost)) = not_built
+checks_of s (Change (Stuck name value cost)) = not_built
+checks_of s (Change (Acts name kind cost)) = not_built
+checks_of s (Change (Define block)) = not_built
+checks_of s (Change (Pin block name width)) = not_built
+checks_of s (Change (Inside block name kind nets)) = not_built
+checks_of s (Change (UseBlock block name nets)) = not_built
 checks_of s (Query (Label net cycle)) = checks_of_cell s.present net cycle
+checks_of s (Query Conflicts) = not_built
+checks_of s (Query Diagnose) = not_built
+checks_of s (Query Probe) = not_built
+checks_of s (Query (Explain net cycle value)) = not_built
+checks_of s (Query (Why number)) = not_built
+checks_of s (Query Show) = not_built
+checks_of s (Query (First number)) = not_built
+checks_of s (Query (Modes number)) = not_built
+checks_of s (Query (OpenBlock name)) = not_built
 
 -- a refusal that comes after memory was found, and its cause
 pub record LateCheck : Type 1 where
@@ -83,7 +106,26 @@ late_checks_of s Nothing = []
 late_checks_of s (Change (Net name width)) = []
 late_checks_of s (Change (Add name kind nets)) = []
 late_checks_of s (Change (Measure net cycle value)) = []
+late_checks_of s (Change (Cycles count)) = []
+late_checks_of s (Change (Retract net cycle)) = []
+late_checks_of s (Change Undo) = []
+late_checks_of s (Change (Cost name cost)) = []
+late_checks_of s (Change (Stuck name value cost)) = []
+late_checks_of s (Change (Acts name kind cost)) = []
+late_checks_of s (Change (Define block)) = []
+late_checks_of s (Change (Pin block name width)) = []
+late_checks_of s (Change (Inside block name kind nets)) = []
+late_checks_of s (Change (UseBlock block name nets)) = []
 late_checks_of s (Query (Label net cycle)) = []
+late_checks_of s (Query Conflicts) = []
+late_checks_of s (Query Diagnose) = []
+late_checks_of s (Query Probe) = []
+late_checks_of s (Query (Explain net cycle value)) = []
+late_checks_of s (Query (Why number)) = []
+late_checks_of s (Query Show) = []
+late_checks_of s (Query (First number)) = []
+late_checks_of s (Query (Modes number)) = []
+late_checks_of s (Query (OpenBlock name)) = []
 
 -- the first of the causes that there is refuses with this
 abbrev pub IsFirstCause : List LateCheck → Refusal → Type 0

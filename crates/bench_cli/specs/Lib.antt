@@ -1,8 +1,5 @@
 pub mod Statuses
 pub mod Words
-pub mod Grammar
-pub mod Requests
-pub mod Reading
 pub mod Replies
 pub mod Answers
 pub mod Texts

@@ -1,7 +1,8 @@
 -- What lines are answered.
 use Rattle.std.specs.Prelude.{ℕ, Bool, true, false, ◌||◌, List, [], ◌∷◌, ◌++◌, codes, decimal}
+use Rattle.netlist_text.specs.Faults as faults
 use Rattle.bench_cli.specs.declared.replies.Refusal.{Refusal}
-use Rattle.bench_cli.specs.declared.replies.Refusal.TheVariants.{NameTaken, UnknownNet, BadWidth, WidthsDisagree, BadCycle, ValueDoesNotFit, NetsFull, ComponentsFull, CellsFull, MeasurementsFull, AlreadyMeasured, NotBuilt}
+use Rattle.bench_cli.specs.declared.replies.Refusal.TheVariants.{LineTooLong, Unreadable, NameTaken, UnknownNet, BadWidth, WidthsDisagree, BadCycle, ValueDoesNotFit, NetsFull, ComponentsFull, CellsFull, MeasurementsFull, AlreadyMeasured, NotBuilt}
 
 -- the reply to a line: text, a refusal, or the refusal for want of memory
 pub data Reply : Type 0 where
@@ -11,6 +12,8 @@ pub data Reply : Type 0 where
 
 -- the number of a refusal
 abbrev pub number_of : Refusal → ℕ
+number_of LineTooLong = 10
+number_of (Unreadable fault) = faults.number_of fault
 number_of NameTaken = 20
 number_of UnknownNet = 21
 number_of BadWidth = 22
@@ -26,6 +29,8 @@ number_of NotBuilt = 50
 
 -- its text
 abbrev pub text_of_refusal : Refusal → List ℕ
+text_of_refusal LineTooLong = codes "line too long"
+text_of_refusal (Unreadable fault) = faults.text_of fault
 text_of_refusal NameTaken = codes "name taken"
 text_of_refusal UnknownNet = codes "unknown net"
 text_of_refusal BadWidth = codes "bad width"

@@ -2,7 +2,6 @@
 use Rattle.std.specs.Prelude.{◌≡◌, ℕ, ◌<◌, true, is_some, List, length, Some, None}
 use Rattle.std.specs.List.{All, list_all}
 use Rattle.circuit_model.specs.Present.{PresentView, net_named, with_part}
-use Rattle.circuit_model.specs.Kinds.{RepeatsLast}
 use Rattle.circuit_model.specs.declared.present.Component.{Component}
 use Rattle.bench_cli.specs.Replies.{Reply, Text, Refused, NoMemory}
 use Rattle.bench_cli.specs.Presents.{State, places_of, cell_of, after}
@@ -10,12 +9,11 @@ use Rattle.bench_cli.specs.Checks.{checks_of, first_refusal}
 use Rattle.bench_cli.specs.State.{wants_memory, Does}
 use Rattle.bench_cli.specs.declared.replies.Answer.{Answer}
 use Rattle.bench_cli.specs.declared.replies.Answer.TheVariants as answer
-use Rattle.bench_cli.specs.declared.requests.Change.{Change}
-use Rattle.bench_cli.specs.declared.requests.Change.TheVariants.{Net, Add, Measure}
-use Rattle.bench_cli.specs.declared.requests.Query.{Query}
-use Rattle.bench_cli.specs.declared.requests.Query.TheVariants.{Label}
-use Rattle.bench_cli.specs.declared.requests.Request.{Request}
-use Rattle.bench_cli.specs.declared.requests.Request.TheVariants as request
+use Rattle.netlist_text.specs.declared.requests.Change.{Change}
+use Rattle.netlist_text.specs.declared.requests.Query.{Query}
+use Rattle.netlist_text.specs.declared.requests.Query.TheVariants.{Label, Conflicts, Diagnose, Probe, Explain, Why, Show, First, Modes, OpenBlock}
+use Rattle.netlist_text.specs.declared.requests.Request.{Request}
+use Rattle.netlist_text.specs.declared.requests.Request.TheVariants as request
 
 -- each name is a net's, and these are their places
 pub record AreNets (s : PresentView) (names : List (List ℕ)) (places : List ℕ) : Type 0 where
@@ -30,18 +28,6 @@ PlacesPart old component answer.Accepted new = new ≡ record old { present = wi
 PlacesPart old component (answer.Label cell) new = ⊥
 PlacesPart old component (answer.Refused refusal) new = ⊥
 PlacesPart old component answer.NoMemory new = new ≡ old
-
--- unused places of a component's nets repeat the last one
-abbrev pub IsPadded : Change → Type 0
-IsPadded (Net name width) = Unit {0}
-IsPadded (Add name kind nets) = RepeatsLast kind nets
-IsPadded (Measure net cycle value) = Unit {0}
-
--- and so they do where a request is such a change
-abbrev pub AsksPadded : Request → Type 0
-AsksPadded request.Nothing = Unit {0}
-AsksPadded (request.Change change) = IsPadded change
-AsksPadded (request.Query query) = Unit {0}
 
 -- The first check that applies refuses, and then nothing changes; or none does, and then the change is made or finds no
 -- memory.
@@ -63,5 +49,14 @@ abbrev pub Asked : State → Query → Answer → Type 0
 Asked s query answer.Nothing = ⊥
 Asked s query answer.Accepted = ⊥
 Asked s (Label net cycle) (answer.Label cell) = (first_refusal (checks_of s (request.Query (Label net cycle))) ≡ None) × (cell ≡ cell_of s.present net cycle)
+Asked s Conflicts (answer.Label cell) = ⊥
+Asked s Diagnose (answer.Label cell) = ⊥
+Asked s Probe (answer.Label cell) = ⊥
+Asked s (Explain net cycle value) (answer.Label cell) = ⊥
+Asked s (Why number) (answer.Label cell) = ⊥
+Asked s Show (answer.Label cell) = ⊥
+Asked s (First number) (answer.Label cell) = ⊥
+Asked s (Modes number) (answer.Label cell) = ⊥
+Asked s (OpenBlock name) (answer.Label cell) = ⊥
 Asked s query (answer.Refused refusal) = first_refusal (checks_of s (request.Query query)) ≡ Some refusal
 Asked s query answer.NoMemory = ⊥

@@ -1,5 +1,5 @@
 -- The step of a line, and the run of a session.
-use Rattle.std.specs.Prelude.{◌≡◌, ℕ, Bool, true, false, not, List, [], ◌∷◌, ◌++◌, codes, Some, None}
+use Rattle.std.specs.Prelude.{◌≡◌, ℕ, ◌≤◌, ◌<◌, Bool, true, false, not, List, [], ◌∷◌, ◌++◌, codes, length, Some, None, Result, Ok, Err}
 use Rattle.std.specs.List.{list_any}
 use Rattle.circuit_model.specs.declared.model.Cell.{Cell}
 use Rattle.circuit_model.specs.declared.model.Fact.{Fact}
@@ -7,20 +7,21 @@ use Rattle.circuit_model.specs.Closure.{fact}
 use Rattle.circuit_model.specs.Present.{PresentView}
 use Rattle.circuit_model.specs.Printed.{Labelled, IsPrintedLabel}
 use Rattle.standing_view.specs.View.{is_fact}
-use Rattle.bench_cli.specs.Grammar.{words_of, IsReadable}
-use Rattle.bench_cli.specs.Requests.{Asks}
+use Rattle.bench_io.specs.declared.limits.TheConstants.{LONGEST_LINE}
+use Rattle.netlist_text.specs.Grammar.{reading_of}
+use Rattle.netlist_text.specs.declared.faults.LineFault.{LineFault}
 use Rattle.bench_cli.specs.Replies.{Reply, Text, Refused, NoMemory, Exchange}
 use Rattle.bench_cli.specs.Texts.{label_lines}
 use Rattle.bench_cli.specs.Checks.{checks_of, first_refusal, late_checks_of, IsFirstCause, HasNoCause}
 pub use Rattle.bench_cli.specs.Presents.{State, empty}
 use Rattle.bench_cli.specs.Presents.{cell_of, after}
 use Rattle.bench_cli.specs.declared.replies.Refusal.{Refusal}
-use Rattle.bench_cli.specs.declared.replies.Refusal.TheVariants.{NotBuilt}
-use Rattle.bench_cli.specs.declared.requests.Change.TheVariants.{Net, Add, Measure}
-use Rattle.bench_cli.specs.declared.requests.Query.{Query}
-use Rattle.bench_cli.specs.declared.requests.Query.TheVariants.{Label}
-use Rattle.bench_cli.specs.declared.requests.Request.{Request}
-use Rattle.bench_cli.specs.declared.requests.Request.TheVariants as request
+use Rattle.bench_cli.specs.declared.replies.Refusal.TheVariants.{LineTooLong, Unreadable}
+use Rattle.netlist_text.specs.declared.requests.Change.TheVariants.{Net, Add, Measure, Cycles, Retract, Undo, Cost, Stuck, Acts, Define, Pin, Inside, UseBlock}
+use Rattle.netlist_text.specs.declared.requests.Query.{Query}
+use Rattle.netlist_text.specs.declared.requests.Query.TheVariants.{Label, Conflicts, Diagnose, Probe, Explain, Why, Show, First, Modes, OpenBlock}
+use Rattle.netlist_text.specs.declared.requests.Request.{Request}
+use Rattle.netlist_text.specs.declared.requests.Request.TheVariants as request
 
 -- the text is the printed label of the cell, a line for each word and environment, and `ok`
 pub record IsLabelReply (s : PresentView) (c : Cell) (text : List ℕ) : Type 0 where
@@ -28,9 +29,18 @@ pub record IsLabelReply (s : PresentView) (c : Cell) (text : List ℕ) : Type 0 
   pub exact : IsPrintedLabel s c label
   pub lines : text ≡ label_lines s c label ++ codes "ok\n"
 
--- the text is the answer to the question
+-- The text is the answer to the question. One that is not built has none.
 abbrev pub IsAnswer : PresentView → Query → List ℕ → Type 0
 IsAnswer s (Label net cycle) text = IsLabelReply s (cell_of s net cycle) text
+IsAnswer s Conflicts text = ⊥
+IsAnswer s Diagnose text = ⊥
+IsAnswer s Probe text = ⊥
+IsAnswer s (Explain net cycle value) text = ⊥
+IsAnswer s (Why number) text = ⊥
+IsAnswer s Show text = ⊥
+IsAnswer s (First number) text = ⊥
+IsAnswer s (Modes number) text = ⊥
+IsAnswer s (OpenBlock name) text = ⊥
 
 -- what a request is answered to which no check applies, and the state after it
 abbrev pub Does : State → Request → Reply → State → Type 0
@@ -38,14 +48,19 @@ Does old request.Nothing reply new = (reply ≡ Text []) × (new ≡ old)
 Does old (request.Change change) reply new = (reply ≡ Text (codes "ok\n")) × (new ≡ after old change)
 Does old (request.Query query) reply new = (text : List ℕ) × (reply ≡ Text text) × IsAnswer old.present query text × (new ≡ old)
 
+-- the line is not too long, and reads as this
+pub record Reads (line : List ℕ) (reading : Result Request LineFault) : Type 0 where
+  pub short : length line ≤ LONGEST_LINE
+  pub reads : reading_of line ≡ reading
+
 -- The step of a line: its reply, where that isn't want of memory, and the state after it.
 pub data Step (old : State) (line : List ℕ) (reply : Reply) (new : State) : Type 0 where
-  unreadable : (IsReadable line → ⊥) → reply ≡ Refused NotBuilt → new ≡ old → Step old line reply new
-  unasked : IsReadable line → ((request : Request) → Asks (words_of line) request → ⊥) → reply ≡ Refused NotBuilt → new ≡ old → Step old line reply new
-  refused : IsReadable line → (request : Request) → Asks (words_of line) request → (refusal : Refusal) → first_refusal (checks_of old request) ≡ Some refusal → reply ≡ Refused refusal → new ≡ old → Step old line reply new
-  refused_late : IsReadable line → (request : Request) → Asks (words_of line) request → first_refusal (checks_of old request) ≡ None → (refusal : Refusal) → IsFirstCause (late_checks_of old request) refusal
+  too_long : LONGEST_LINE < length line → reply ≡ Refused LineTooLong → new ≡ old → Step old line reply new
+  unreadable : (fault : LineFault) → Reads line (Err fault) → reply ≡ Refused (Unreadable fault) → new ≡ old → Step old line reply new
+  refused : (request : Request) → Reads line (Ok request) → (refusal : Refusal) → first_refusal (checks_of old request) ≡ Some refusal → reply ≡ Refused refusal → new ≡ old → Step old line reply new
+  refused_late : (request : Request) → Reads line (Ok request) → first_refusal (checks_of old request) ≡ None → (refusal : Refusal) → IsFirstCause (late_checks_of old request) refusal
       → reply ≡ Refused refusal → new ≡ old → Step old line reply new
-  served : IsReadable line → (request : Request) → Asks (words_of line) request → first_refusal (checks_of old request) ≡ None → HasNoCause (late_checks_of old request) → Does old request reply new → Step old line reply new
+  served : (request : Request) → Reads line (Ok request) → first_refusal (checks_of old request) ≡ None → HasNoCause (late_checks_of old request) → Does old request reply new → Step old line reply new
 
 -- the reading stands in one of the presents
 abbrev pub stands_in_some : List PresentView → Fact → Bool
@@ -57,13 +72,31 @@ wants_memory s request.Nothing = false
 wants_memory s (request.Change (Net name width)) = true
 wants_memory s (request.Change (Add name kind nets)) = true
 wants_memory s (request.Change (Measure net cycle value)) = not (stands_in_some s.earlier (fact (cell_of s.present net cycle) value))
+wants_memory s (request.Change (Cycles count)) = false
+wants_memory s (request.Change (Retract net cycle)) = false
+wants_memory s (request.Change Undo) = false
+wants_memory s (request.Change (Cost name cost)) = false
+wants_memory s (request.Change (Stuck name value cost)) = false
+wants_memory s (request.Change (Acts name kind cost)) = false
+wants_memory s (request.Change (Define block)) = false
+wants_memory s (request.Change (Pin block name width)) = false
+wants_memory s (request.Change (Inside block name kind nets)) = false
+wants_memory s (request.Change (UseBlock block name nets)) = false
 wants_memory s (request.Query (Label net cycle)) = false
+wants_memory s (request.Query Conflicts) = false
+wants_memory s (request.Query Diagnose) = false
+wants_memory s (request.Query Probe) = false
+wants_memory s (request.Query (Explain net cycle value)) = false
+wants_memory s (request.Query (Why number)) = false
+wants_memory s (request.Query Show) = false
+wants_memory s (request.Query (First number)) = false
+wants_memory s (request.Query (Modes number)) = false
+wants_memory s (request.Query (OpenBlock name)) = false
 
 -- The line may find no memory: it asks what may want it, and no check applies.
 pub record MayWant (old : State) (line : List ℕ) : Type 0 where
-  pub readable : IsReadable line
   pub request : Request
-  pub asks : Asks (words_of line) request
+  pub asks : Reads line (Ok request)
   pub free : first_refusal (checks_of old request) ≡ None
   pub wants : wants_memory old request ≡ true
 

@@ -5,15 +5,16 @@ ghost use Rattle.circuit_model.specs.Kinds.{RepeatsLast, are_widths, fits_value}
 ghost use Rattle.circuit_model.specs.Present.{named_in, IsLawfulComponent};
 ghost use Rattle.circuit_model.specs.declared.limits.TheConstants.{MOST_PARTS};
 ghost use Rattle.bench_cli.specs.Presents.{component_at, widths_at};
-ghost use Rattle.bench_cli.specs.Serving.{IsPadded, Changes, PlacesPart};
-ghost use Rattle.bench_cli.specs.declared.requests.Change.TheVariants as change;
+ghost use Rattle.netlist_text.specs.Grammar.{IsPadded};
+ghost use Rattle.bench_cli.specs.Serving.{Changes, PlacesPart};
+ghost use Rattle.netlist_text.specs.declared.requests.Change.TheVariants as change;
 
 use crate::checks::{check_net, check_part, check_reading, has_name, nets_of, widths_of};
 use crate::remembering::{remember_last, remember_reading};
 use crate::replies::{Answer, Refusal};
-use crate::requests::Change;
 use crate::state::Bench;
 use circuit_model::{Component, Kind, Name, Present, instances_of};
+use netlist_text::Change;
 use std::alloc::{AllocError, Global};
 use word_domain::Width;
 
@@ -126,6 +127,16 @@ impl Bench {
             Change::Net { name, width } => self.add_net(*name, *width),
             Change::Add { name, kind, nets } => self.add_part(name, *kind, nets),
             Change::Measure { net, cycle, value } => self.measure(net, *cycle, *value),
+            Change::Cycles { .. }
+            | Change::Retract { .. }
+            | Change::Undo
+            | Change::Cost { .. }
+            | Change::Stuck { .. }
+            | Change::Acts { .. }
+            | Change::Define { .. }
+            | Change::Pin { .. }
+            | Change::Inside { .. }
+            | Change::UseBlock { .. } => Answer::Refused(Refusal::NotBuilt),
         }
     }
 }

@@ -3,10 +3,15 @@ ghost use Rattle.std.specs.Prelude.{◌≡◌};
 ghost use Rattle.bench_cli.specs.Replies.{number_of, text_of_refusal};
 
 use circuit_model::Cell;
+use netlist_text::LineFault;
 
 /// Why a line changes and answers nothing. Want of memory is none of these.
 #[derive(Clone, Copy, Debug, PartialEq, Eq)]
 pub enum Refusal {
+    /// The line has more bytes than a line may have.
+    LineTooLong,
+    /// The line cannot be read.
+    Unreadable(LineFault),
     /// A net or a component has the new name.
     NameTaken,
     /// A name is that of no net.
@@ -29,7 +34,7 @@ pub enum Refusal {
     MeasurementsFull,
     /// A measurement stands at the cell.
     AlreadyMeasured,
-    /// The line is too long, has a byte that no line may have, or is none that is read.
+    /// What the line asks is not answered yet.
     NotBuilt,
 }
 
@@ -49,11 +54,13 @@ pub enum Answer {
 }
 
 impl Refusal {
-    /// The number that the reply has: from 20 to 25, 30 to 33, 40 or 50.
+    /// The number that the reply has: from 10 to 15, 20 to 25, 30 to 33, 40 or 50.
     pub fn number(&self) -> u64
         ensures { result ≡ number_of self.now }
     {
         match self {
+            Refusal::LineTooLong => 10,
+            Refusal::Unreadable(fault) => u64::from(fault.number()),
             Refusal::NameTaken => 20,
             Refusal::UnknownNet => 21,
             Refusal::BadWidth => 22,
@@ -74,6 +81,8 @@ impl Refusal {
         ensures { result.now ≡ text_of_refusal self.now }
     {
         match self {
+            Refusal::LineTooLong => b"line too long",
+            Refusal::Unreadable(fault) => fault.text(),
             Refusal::NameTaken => b"name taken",
             Refusal::UnknownNet => b"unknown net",
             Refusal::BadWidth => b"bad width",

@@ -67,7 +67,7 @@ fn step<S: Source>(
 {
     match reader.next_line(source) {
         Ok(Line::Text(line)) => Ok(bench.take(line)),
-        Ok(Line::TooLong) => Ok(Answer::Refused(Refusal::NotBuilt)),
+        Ok(Line::TooLong) => Ok(Answer::Refused(Refusal::LineTooLong)),
         Ok(Line::End) => Err(Ending::End),
         Err(ReadStop::Failed) => Err(Ending::Failed),
         Err(ReadStop::TooMuch) => Err(Ending::TooMuch),

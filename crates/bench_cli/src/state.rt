@@ -4,15 +4,15 @@ ghost use Rattle.bench_io.specs.declared.limits.TheConstants.{LONGEST_LINE};
 ghost use Rattle.bench_cli.specs.State.{empty, Takes};
 ghost use Rattle.bench_cli.specs.Answers.{IsReply, IsWritable};
 ghost use Rattle.bench_cli.specs.Replies.{Reply};
-ghost use Rattle.bench_cli.specs.Serving.{AsksPadded, Serves, Asked};
-ghost use Rattle.bench_cli.specs.declared.requests.Query.TheVariants as query;
+ghost use Rattle.netlist_text.specs.Grammar.{AsksPadded};
+ghost use Rattle.bench_cli.specs.Serving.{Serves, Asked};
+ghost use Rattle.netlist_text.specs.declared.requests.Query.TheVariants as query;
 
 use crate::checks::check_cell;
-use crate::reading::has_only_printable;
 use crate::replies::{Answer, Refusal};
-use crate::requests::{Query, Request, read_request};
 use circuit_model::{Name, Present};
 use label_engine::Engine;
+use netlist_text::{Query, Request, read_line};
 use standing_view::Standing;
 use std::alloc::{AllocError, Global};
 use std::marker::Model;
@@ -60,12 +60,9 @@ impl Bench {
         ensures takes { (reply : Reply) → IsReply self.new result reply → Takes self.old line.now reply self.new }
         ensures writable { IsWritable self.new result }
     {
-        if !has_only_printable(line) {
-            return Answer::Refused(Refusal::NotBuilt);
-        }
-        match read_request(line) {
-            None => Answer::Refused(Refusal::NotBuilt),
-            Some(request) => self.serve(&request),
+        match read_line(line) {
+            Ok(request) => self.serve(&request),
+            Err(fault) => Answer::Refused(Refusal::Unreadable(fault)),
         }
     }
 
@@ -89,6 +86,15 @@ impl Bench {
     {
         match query {
             Query::Label { net, cycle } => self.label(net, *cycle),
+            Query::Conflicts
+            | Query::Diagnose
+            | Query::Probe
+            | Query::Explain { .. }
+            | Query::Why { .. }
+            | Query::Show
+            | Query::First { .. }
+            | Query::Modes { .. }
+            | Query::OpenBlock { .. } => Answer::Refused(Refusal::NotBuilt),
         }
     }
 

@@ -10,7 +10,7 @@ use std::alloc::{AllocError, Global};
 use std::test::Fail;
 
 // The environment with these slots.
-fn of(slots: &[u16]) -> Env {
+pub fn of(slots: &[u16]) -> Env {
     let mut env = Env::empty();
     for slot in slots {
         if *slot < 64 {
@@ -60,7 +60,7 @@ fn an_empty_conflict_is_not_hit(rt: HostRuntime) -> Result<(), Fail> {
 }
 
 // All slots, rising.
-fn all_slots(alloc: Global) -> Result<Vec<u16>, AllocError>
+pub fn all_slots(alloc: Global) -> Result<Vec<u16>, AllocError>
     ensures { IfOk result (λ order. IsListing (λ i j. i < j) (λ k. k < SLOTS) order.items) }
 {
     let mut order = Vec::new(alloc);
@@ -71,7 +71,7 @@ fn all_slots(alloc: Global) -> Result<Vec<u16>, AllocError>
 }
 
 // The cost of each slot of the order.
-fn costs_of(alloc: Global, order: &[u16], cheap: &[u16]) -> Result<Vec<u8>, AllocError>
+pub fn costs_of(alloc: Global, order: &[u16], cheap: &[u16]) -> Result<Vec<u8>, AllocError>
     ensures { IfOk result (λ costs. length costs.items ≡ length order.now) }
 {
     let mut costs = Vec::new(alloc);
@@ -82,7 +82,7 @@ fn costs_of(alloc: Global, order: &[u16], cheap: &[u16]) -> Result<Vec<u8>, Allo
 }
 
 // The diagnoses in the order of slots, where each slot costs 4 but the cheap ones, which cost 1.
-fn diagnosed(
+pub fn diagnosed(
     alloc: Global,
     hitter: &mut Hitter,
     conflicts: &[Env],
@@ -98,7 +98,7 @@ fn diagnosed(
 }
 
 // The conflicts of so many polyboxes, each of the five slots M1 M2 M3 A1 A2.
-fn polyboxes(alloc: Global, boxes: u16) -> Result<Vec<Env>, AllocError>
+pub fn polyboxes(alloc: Global, boxes: u16) -> Result<Vec<Env>, AllocError>
     requires { boxes < 10 }
 {
     let mut conflicts = Vec::new(alloc);
@@ -111,7 +111,7 @@ fn polyboxes(alloc: Global, boxes: u16) -> Result<Vec<Env>, AllocError>
 }
 
 // Whether the lists have the same environments in the same order.
-fn are_same(found: &[Env], wanted: &[Env]) -> bool {
+pub fn are_same(found: &[Env], wanted: &[Env]) -> bool {
     found.len() == wanted.len() && found.iter().zip(wanted).all(|(a, b)| *a == *b)
 }
 

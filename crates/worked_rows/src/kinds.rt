@@ -5,7 +5,7 @@ use std::test::Fail;
 
 // Whole sessions and their replies, one for each kind and more. In each, A, B and Z are nets of width 4, and P is one
 // of width 8.
-const KIND_ROWS: [(&[u8], &[u8]); 16] = [
+const KIND_ROWS: [(&[u8], &[u8]); 17] = [
     // A is 1100 and B is 1010
     (
         b"buf G A Z\nmeasure A 12\nlabel Z\n",
@@ -48,6 +48,10 @@ const KIND_ROWS: [(&[u8], &[u8]); 16] = [
         b"ok\nok\nok\nP=15 {G;A,B}\nok\n",
     ),
     (b"const G Z 9\nlabel Z\n", b"ok\nZ=9 {G;}\nok\n"),
+    (
+        b"reg G A Z 9\nmeasure A 12\nlabel Z\nlabel Z@0\n",
+        b"ok\nok\nZ=9 {G;}\nok\nZ=9 {G;}\nok\n",
+    ),
     // a word that decides alone, and one that leaves a bit open
     (
         b"and G A B Z\nmeasure A 0\nlabel Z\n",

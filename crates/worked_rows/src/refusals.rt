@@ -1,6 +1,6 @@
 // Lines that are refused, each by the first check that applies.
 
-use crate::running::{NEVER, NOT_BUILT, SESSION, ran, session};
+use crate::running::{NEVER, SESSION, ran, session};
 use bench_cli::Status;
 use itoa::Buffer;
 use std::alloc::Global;
@@ -8,13 +8,13 @@ use std::process::Abort;
 use std::test::Fail;
 
 // The lines of one session, with their replies.
-const IN_ORDER: [(&[u8], &[u8]); 24] = [
+const IN_ORDER: [(&[u8], &[u8]); 28] = [
     (b"net A 4", b"ok\n"),
     (b"net A 4", b"no 20 name taken\n"),
     (b"net B 33", b"no 22 bad width\n"),
     (b"net B 0", b"no 22 bad width\n"),
     (b"net B 8", b"ok\n"),
-    (b"net 9B 8", b"no 50 not built\n"),
+    (b"net 9B 8", b"no 14 bad name\n"),
     (b"buf U A Q", b"no 21 unknown net\n"),
     (b"buf U A B", b"no 23 widths disagree\n"),
     (b"measure A 16", b"no 25 value does not fit\n"),
@@ -34,6 +34,11 @@ const IN_ORDER: [(&[u8], &[u8]); 24] = [
     (b"net U 33", b"no 20 name taken\n"),
     (b"mul M A A B", b"ok\n"),
     (b"mul N A B B", b"no 23 widths disagree\n"),
+    // what cannot be read
+    (b"frob", b"no 12 unknown command\n"),
+    (b"net C", b"no 13 wrong word count\n"),
+    (b"net 9C x", b"no 14 bad name\n"),
+    (b"net C x", b"no 15 bad number\n"),
 ];
 
 #[test]
@@ -53,30 +58,30 @@ fn each_by_its_first_check(rt: HostRuntime) -> Result<(), Fail> {
 }
 
 // Lines that are refused after a net N of width 4 and the lines of `SESSION`, with their replies.
-const REFUSED: [(&[u8], &[u8]); 38] = [
+const REFUSED: [(&[u8], &[u8]); 63] = [
     (b"net C 0", b"no 22 bad width\n"),
     (b"net C 33", b"no 22 bad width\n"),
-    (b"net C", b"no 50 not built\n"),
-    (b"net C 8 8", b"no 50 not built\n"),
-    (b"net 9C 8", b"no 50 not built\n"),
-    (b"net C x", b"no 50 not built\n"),
+    (b"net C", b"no 13 wrong word count\n"),
+    (b"net C 8 8", b"no 13 wrong word count\n"),
+    (b"net 9C 8", b"no 14 bad name\n"),
+    (b"net C x", b"no 15 bad number\n"),
     (b"add S A B Z", b"no 20 name taken\n"),
     (b"add A A B Z", b"no 20 name taken\n"),
     (b"add T A B Q", b"no 21 unknown net\n"),
     (b"add T A B N", b"no 23 widths disagree\n"),
-    (b"add T A B", b"no 50 not built\n"),
+    (b"add T A B", b"no 13 wrong word count\n"),
     // another number of words
-    (b"buf T A", b"no 50 not built\n"),
-    (b"not T A B Z", b"no 50 not built\n"),
-    (b"nor T A Z", b"no 50 not built\n"),
-    (b"xnor T A B Z Z", b"no 50 not built\n"),
-    (b"const K Z", b"no 50 not built\n"),
-    (b"const K Z 1 1", b"no 50 not built\n"),
+    (b"buf T A", b"no 13 wrong word count\n"),
+    (b"not T A B Z", b"no 13 wrong word count\n"),
+    (b"nor T A Z", b"no 13 wrong word count\n"),
+    (b"xnor T A B Z Z", b"no 13 wrong word count\n"),
+    (b"const K Z", b"no 13 wrong word count\n"),
+    (b"const K Z 1 1", b"no 13 wrong word count\n"),
     // no name, no number, no net
-    (b"buf 9T A Z", b"no 50 not built\n"),
-    (b"and T A 9B Z", b"no 50 not built\n"),
-    (b"const K Z x", b"no 50 not built\n"),
-    (b"const K Z 00000000001", b"no 50 not built\n"),
+    (b"buf 9T A Z", b"no 14 bad name\n"),
+    (b"and T A 9B Z", b"no 14 bad name\n"),
+    (b"const K Z x", b"no 15 bad number\n"),
+    (b"const K Z 00000000001", b"no 15 bad number\n"),
     (b"const K S 1", b"no 21 unknown net\n"),
     (b"or T A S Z", b"no 21 unknown net\n"),
     // the value does not fit, or the widths disagree
@@ -84,13 +89,40 @@ const REFUSED: [(&[u8], &[u8]); 38] = [
     (b"not T A N", b"no 23 widths disagree\n"),
     (b"nand T A N Z", b"no 23 widths disagree\n"),
     (b"mul T A B Z", b"no 23 widths disagree\n"),
-    // not yet there
-    (b"reg R A Z 0", b"no 50 not built\n"),
-    (b"measure A@0 5", b"no 50 not built\n"),
-    (b"measure A", b"no 50 not built\n"),
-    (b"label A@0", b"no 50 not built\n"),
+    (b"reg R A N 0", b"no 23 widths disagree\n"),
+    (b"reg R A Z 256", b"no 25 value does not fit\n"),
+    // a cycle that the present does not have, and one that it has
+    (b"measure A@1 3", b"no 24 bad cycle\n"),
+    (b"label A@1", b"no 24 bad cycle\n"),
+    (b"measure A@0 5", b"no 40 already measured\n"),
+    // no such line
+    (b"frob", b"no 12 unknown command\n"),
+    (b"inside T use A B", b"no 12 unknown command\n"),
+    (b"inside T", b"no 13 wrong word count\n"),
+    (b"use T U", b"no 13 wrong word count\n"),
+    (b"measure A", b"no 13 wrong word count\n"),
+    (b"label @1", b"no 14 bad name\n"),
+    (b"label A@", b"no 15 bad number\n"),
+    // not answered yet
+    (b"cycles 2", b"no 50 not built\n"),
+    (b"retract A", b"no 50 not built\n"),
+    (b"undo", b"no 50 not built\n"),
+    (b"cost S 1", b"no 50 not built\n"),
+    (b"stuck S 4 2", b"no 50 not built\n"),
+    (b"acts S xor 3", b"no 50 not built\n"),
+    (b"define T", b"no 50 not built\n"),
+    (b"pin T A 1", b"no 50 not built\n"),
+    (b"inside T and G A B Z", b"no 50 not built\n"),
+    (b"use T U A B", b"no 50 not built\n"),
     (b"conflicts", b"no 50 not built\n"),
-    (b"frob", b"no 50 not built\n"),
+    (b"diagnose", b"no 50 not built\n"),
+    (b"probe", b"no 50 not built\n"),
+    (b"explain Z 12", b"no 50 not built\n"),
+    (b"why 1", b"no 50 not built\n"),
+    (b"show", b"no 50 not built\n"),
+    (b"first 2", b"no 50 not built\n"),
+    (b"modes 4", b"no 50 not built\n"),
+    (b"open S", b"no 50 not built\n"),
     // no net, a measured cell, and a value that does not fit
     (b"measure Q 1", b"no 21 unknown net\n"),
     (b"measure S 1", b"no 21 unknown net\n"),
@@ -179,7 +211,7 @@ fn a_measurement_too_many(rt: HostRuntime) -> Result<(), Fail> {
     last_is_refused(&rt, alloc, &text, 512, b"no 33 measurements full\n")
 }
 
-// The line, and then the same line with a byte more, that is read no more.
+// The line, and then the same line with a byte more, that is refused.
 fn longest(
     rt: &impl Abort,
     alloc: Global,
@@ -187,6 +219,7 @@ fn longest(
     byte: u8,
     count: u16,
     rest: &[u8],
+    reply: &[u8],
 ) -> Result<(), Fail> {
     let mut text = Vec::new(alloc);
     for more in 0..2 {
@@ -196,48 +229,76 @@ fn longest(
         }
         text.extend_from_slice(rest)?;
     }
-    last_is_refused(rt, alloc, &text, 1, NOT_BUILT)
+    last_is_refused(rt, alloc, &text, 1, reply)
 }
 
 #[test]
 fn the_longest_name(rt: HostRuntime) -> Result<(), Fail> {
-    longest(&rt, rt.alloc(), b"net ", b'A', 32, b" 4\n")
+    longest(
+        &rt,
+        rt.alloc(),
+        b"net ",
+        b'A',
+        32,
+        b" 4\n",
+        b"no 14 bad name\n",
+    )
 }
 
 #[test]
 fn the_longest_line(rt: HostRuntime) -> Result<(), Fail> {
-    longest(&rt, rt.alloc(), b"net A 4", b' ', 1024 - 7, b"\n")
+    longest(
+        &rt,
+        rt.alloc(),
+        b"net A 4",
+        b' ',
+        1024 - 7,
+        b"\n",
+        b"no 10 line too long\n",
+    )
 }
+
+#[test]
+fn the_longest_comment(rt: HostRuntime) -> Result<(), Fail> {
+    let alloc = rt.alloc();
+    let mut text = vec![in alloc; b'x'; 1024]?;
+    let (_, sink) = ran(alloc, "run", &text, 1024, NEVER, NEVER)?;
+    assert!(rt; sink.held() == b"no 12 unknown command\n".as_slice());
+    text[0] = b'#';
+    let (status, sink) = ran(alloc, "run", &text, 1024, NEVER, NEVER)?;
+    assert!(rt; status == Status::Done);
+    assert!(rt; sink.held().is_empty());
+    text.push(b'x')?;
+    let (status, sink) = ran(alloc, "run", &text, 1024, NEVER, NEVER)?;
+    assert!(rt; status == Status::SomeRefused);
+    assert!(rt; sink.held() == b"no 10 line too long\n".as_slice());
+    Ok(())
+}
+
+// Lines that ask for nothing, and such as are near them.
+const NEARLY_SILENT: [(&[u8], &[u8]); 8] = [
+    (b"", b""),
+    (b"\n", b""),
+    (b" #", b""),
+    (b"\t # ~\r\n\n", b""),
+    (b"a #", b"no 12 unknown command\n"),
+    (b"#\x0b", b"no 11 not printable ASCII\n"),
+    (b"# \x7f\n", b"no 11 not printable ASCII\n"),
+    (b"#\x80", b"no 11 not printable ASCII\n"),
+];
 
 #[test]
 fn silent_lines(rt: HostRuntime) -> Result<(), Fail> {
     let alloc = rt.alloc();
-    let mut longest = vec![in alloc; b'#'; 1024]?;
-    let (status, sink) = ran(alloc, "run", &longest, 1024, NEVER, NEVER)?;
-    assert!(rt; status == Status::Done);
-    assert!(rt; sink.held().is_empty());
-    longest.push(b'#')?;
-    let texts: [(&[u8], bool); 9] = [
-        (b"", true),
-        (b"\n", true),
-        (b" #", true),
-        (b"\t # ~\r\n\n", true),
-        (b"a #", false),
-        (b"#\x0b", false),
-        (b"# \x7f\n", false),
-        (b"#\x80", false),
-        (&longest, false),
-    ];
-    for (i, (text, is_silent)) in texts.iter().enumerate() {
+    for (i, (text, reply)) in NEARLY_SILENT.iter().enumerate() {
         let (status, sink) = ran(alloc, "run", text, 1024, NEVER, NEVER)?;
-        let want = if *is_silent {
+        let want = if reply.is_empty() {
             Status::Done
         } else {
             Status::SomeRefused
         };
         assert!(rt; status == want, "text {i}");
-        assert!(rt; sink.held().is_empty() == *is_silent, "text {i}");
-        assert!(rt; NOT_BUILT.starts_with(sink.held()), "text {i}");
+        assert!(rt; sink.held() == *reply, "text {i}");
     }
     Ok(())
 }

@@ -7,9 +7,6 @@ use std::alloc::Global;
 use std::process::Abort;
 use std::test::Fail;
 
-/// The reply to a line that is not read.
-pub(crate) const NOT_BUILT: &[u8] = b"no 50 not built\n";
-
 /// A number that no call has.
 pub(crate) const NEVER: u64 = 0;
 

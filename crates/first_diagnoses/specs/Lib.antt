@@ -1,0 +1,5 @@
+pub mod First
+pub mod Weights
+pub mod Branches
+pub mod Rounds
+pub mod Laws

@@ -1,0 +1,5 @@
+// Lines of each command with what they ask, and lines with each fault.
+#![tactic(auto)]
+
+#[cfg(test)]
+mod lines;

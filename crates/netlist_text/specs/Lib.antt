@@ -1,0 +1,12 @@
+pub mod Faults
+pub mod Rows
+pub mod Words
+pub mod Cells
+pub mod Scanning
+pub mod Places
+pub mod Parts
+pub mod Changes
+pub mod Queries
+pub mod Commands
+pub mod Grammar
+pub mod Laws
