@@ -8,7 +8,7 @@ use Rattle.environment_sets.specs.declared.environment.TheConstants.{SLOTS}
 use Rattle.environment_sets.specs.Sets.{Set, ◌⊆◌, IsBelow, is_within}
 use Rattle.environment_sets.specs.Families.{IsCovered, IsAntichain, Adds, Drops, AreInside}
 use Rattle.environment_sets.specs.Members.{members, sets, HasMember}
-use Rattle.environment_sets.specs.Lists.{IsIn, AreDistinct}
+use Rattle.environment_sets.specs.Lists.{IsIn, AreDistinct, IsRoster}
 use Rattle.environment_sets.proofs.Families.{Adds-antichain, Drops-antichain}
 use Rattle.environment_sets.proofs.Listings.{sets-push, IsIn-push, IsIn-front, IsIn-last, IsIn-filter, IsIn-kept, IsRising-filter, map-filter}
 use Rattle.environment_sets.proofs.Membership.{AreDistinct-push, IsIn-map}
@@ -100,21 +100,24 @@ pub covers-any : (es : List Env) (env : Env) (r : Bool) → r ≡ is_covered es 
 covers-any es env r is = (λ h. covered_holds es env (sym is ∙ h), λ (M, member, within). is ∙ holds_covered es env M member within)
 
 -- the sets of the list that are inside the mask
-pub inside-left : (es left : List Env) (mask : Set ℕ) (n : ℕ) → left ≡ filter (λ e. is_within SLOTS (members e) mask) es → n ≡ length left → AreDistinct (sets es) → AreInside (HasMember es) mask n
-inside-left es left mask n filtered count distinct =
+pub roster-left : (es left : List Env) (mask : Set ℕ) → left ≡ filter (λ e. is_within SLOTS (members e) mask) es → AreDistinct (sets es) → IsRoster (λ E. HasMember es E × (E ⊆ mask)) (sets left)
+roster-left es left mask filtered distinct =
     let test : Set ℕ → Bool = λ E. is_within SLOTS E mask in
     let is : IsLeft test es left = record { filtered = filtered } in
-    record {
-      inside = filter test (sets es);
-      exact = record {
-        distinct = IsRising-filter test (λ x y. x ≡ y → ⊥) (sets es) distinct;
-        exact = λ E. (
-          λ h. let r : IsIn (sets es) E × IsTrue (test E) = IsIn-filter test (sets es) E h in (r.0, within_holds SLOTS E mask (member_below es E r.0) r.1),
-          λ (member, inside). IsIn-kept test (sets es) E member (holds_within SLOTS E mask inside),
-        );
-      };
-      count = count ∙ (sym (length-map left members) ∙ ap length (sets-left test es left is));
-    }
+    subst (IsRoster (λ E. HasMember es E × (E ⊆ mask))) (sym (sets-left test es left is)) (record {
+      distinct = IsRising-filter test (λ x y. x ≡ y → ⊥) (sets es) distinct;
+      exact = λ E. (
+        λ h. let r : IsIn (sets es) E × IsTrue (test E) = IsIn-filter test (sets es) E h in (r.0, within_holds SLOTS E mask (member_below es E r.0) r.1),
+        λ (member, inside). IsIn-kept test (sets es) E member (holds_within SLOTS E mask inside),
+      );
+    })
   where
     member_below : (es : List Env) (E : Set ℕ) → HasMember es E → IsBelow SLOTS E
     member_below es E h = let e : (e : Env) × IsIn es e × (members e ≡ E) = IsIn-map members es E h in subst (IsBelow SLOTS) e.2 (slots_are_below e.0)
+
+pub inside-left : (es left : List Env) (mask : Set ℕ) (n : ℕ) → left ≡ filter (λ e. is_within SLOTS (members e) mask) es → n ≡ length left → AreDistinct (sets es) → AreInside (HasMember es) mask n
+inside-left es left mask n filtered count distinct = record {
+  inside = sets left;
+  exact = roster-left es left mask filtered distinct;
+  count = count ∙ sym (length-map left members);
+}

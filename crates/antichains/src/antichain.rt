@@ -1,8 +1,9 @@
 // Sets of environments, none of which contains another.
-ghost use Rattle.std.specs.Prelude.{◌≡◌, ◌<◌, ◌↔◌, IsTrue, OnErr, IfSome, Some, Ok, []};
+ghost use Rattle.std.specs.Prelude.{◌≡◌, ◌<◌, ◌↔◌, IsTrue, OnErr, IfOk, IfSome, Some, Ok, []};
 ghost use Rattle.std.specs.Option.{ForSome, option_map, option_copied};
 ghost use Rattle.environment_sets.specs.Sets.{◌⊆◌};
-ghost use Rattle.environment_sets.specs.Members.{members, HasMember};
+ghost use Rattle.environment_sets.specs.Lists.{IsRoster};
+ghost use Rattle.environment_sets.specs.Members.{members, sets, HasMember};
 ghost use Rattle.environment_sets.specs.Families.{IsCovered, IsAntichain, Adds, Drops, AreInside};
 ghost use Rattle.environment_sets.specs.Orders.{ListsAll, IsOrder};
 ghost use Rattle.environment_sets.specs.Walks.{ComesAfter, GivesNextEnv, envs_left};
@@ -80,6 +81,17 @@ impl Antichain {
             .iter()
             .filter(|member| member.is_subset(mask))
             .count()
+    }
+
+    /// The members that are inside the mask, each once, in no order that is told.
+    pub fn inside(&self, alloc: Global, mask: &Env) -> Result<Vec<Env>, AllocError>
+        ensures { IfOk result (λ found. IsRoster (λ E. HasMember self.now E × (E ⊆ members mask.now)) (sets found.items)) }
+    {
+        self.list
+            .iter()
+            .copied()
+            .filter(|member| member.is_subset(mask))
+            .collect(alloc)
     }
 
     /// The members, in no order that is told.

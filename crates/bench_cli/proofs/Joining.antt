@@ -10,9 +10,10 @@ use Rattle.circuit_model.specs.declared.present.Component.{Component}
 use Rattle.circuit_model.specs.Diagnoses.{Place, AtPart, AtCell}
 use Rattle.circuit_model.specs.Present.{PresentView}
 use Rattle.bench_io.specs.Streams.{Telling}
-use Rattle.bench_cli.specs.Puts.{Puts}
-use Rattle.bench_cli.specs.Texts.{cell_text, part_names_in, cells_in}
-use Rattle.bench_cli.proofs.Putting.{Puts-then, Puts-as, Puts-nothing}
+use Rattle.bench_io.specs.Puts.{Puts}
+use Rattle.netlist_text.specs.Show.{cell_text}
+use Rattle.bench_cli.specs.Texts.{part_names_in, cells_in}
+use Rattle.bench_io.proofs.PutParts.{Puts-then, Puts-as, Puts-nothing}
 
 abbrev pub is_nil : {X : Type 0} → List X → Bool
 is_nil [] = true

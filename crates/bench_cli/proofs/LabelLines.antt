@@ -22,11 +22,11 @@ use Rattle.standing_view.proofs.Places.{among_listed}
 use Rattle.bench_io.specs.Streams.{Telling}
 use Rattle.standing_view.proofs.Named.{as_many_parts, stands_remembered}
 use Rattle.bench_cli.specs.Labels.{labelled, PutsLabel, StandsForPresent}
-use Rattle.bench_cli.specs.Puts.{Puts}
+use Rattle.bench_io.specs.Puts.{Puts}
 use Rattle.bench_cli.specs.Texts.{label_line, label_lines}
 use Rattle.bench_cli.proofs.Listing.{ListsWords, words_none, words_more, words_all, lines-append}
 use Rattle.environment_sets.proofs.Walking.{ListsTo, ListsTo-none, ListsTo-more, ListsTo-all}
-use Rattle.bench_cli.proofs.Putting.{Puts-then, Puts-as, Puts-nothing}
+use Rattle.bench_io.proofs.PutParts.{Puts-then, Puts-as, Puts-nothing}
 
 -- what stands for the present with nothing parked
 pub stands_for : (S : Stock ℕ) (st : Stands) (s : PresentView) → StandsFor S st s [] → StandsForPresent st s

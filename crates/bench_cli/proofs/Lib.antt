@@ -5,9 +5,9 @@ pub mod Running
 pub mod Refusing
 pub mod Serving
 pub mod Causes
-pub mod Nets
-pub mod Putting
 pub mod Joining
 pub mod Listing
 pub mod LabelLines
 pub mod Remembered
+pub mod Changing
+pub mod Naming

@@ -1,5 +1,5 @@
 -- Lines that are refused whatever the state is.
-use Rattle.std.proofs.Common.{◌≡◌, ℕ, ◌<◌, List, length, Ok, Err, refl, sym, subst}
+use Rattle.std.proofs.Common.{◌≡◌, ℕ, ◌<◌, inl, inr, List, length, Ok, Err, refl, sym, subst}
 use Rattle.bench_io.specs.Streams.{Telling}
 use Rattle.bench_io.specs.declared.limits.TheConstants.{LONGEST_LINE}
 use Rattle.bench_io.specs.Reading.{Reading, ReadsLine}
@@ -7,12 +7,8 @@ use Rattle.bench_io.specs.declared.lines.Line.TheVariants.{TooLong}
 use Rattle.netlist_text.specs.declared.faults.LineFault.{LineFault}
 use Rattle.bench_cli.specs.Replies.{Reply, Text, Refused, NoMemory}
 use Rattle.bench_cli.specs.Serving.{Serves}
-use Rattle.bench_cli.specs.Checks.{HasNoCause, late_checks_of}
-use Rattle.netlist_text.specs.declared.requests.Change.TheVariants.{Net, Add, Measure, Cycles, Retract, Undo, Cost, Stuck, Acts, Define, Pin, Inside, UseBlock}
-use Rattle.netlist_text.specs.declared.requests.Query.TheVariants.{Label, Conflicts, Diagnose, Probe, Explain, Why, Show, First, Modes, OpenBlock}
 use Rattle.netlist_text.specs.declared.requests.Request.{Request}
-use Rattle.netlist_text.specs.declared.requests.Request.TheVariants as request
-use Rattle.bench_cli.specs.State.{State, Takes, Reads, too_long, unreadable, refused, served}
+use Rattle.bench_cli.specs.State.{State, Takes, Reads, too_long, unreadable, refused, refused_late, served}
 use Rattle.bench_cli.specs.Turns.{Steps}
 use Rattle.bench_cli.specs.declared.replies.Answer.TheVariants as answer
 use Rattle.bench_cli.specs.declared.replies.Refusal.TheVariants.{LineTooLong, Unreadable}
@@ -33,37 +29,13 @@ steps_too_long first reader s t₀ t₁ k = record {
   answer = (k.answer.0, record { line = k.answer.1; begins = k.answer.3; takes = λ reply is. let P : Reply → Type 0 = λ r. Takes s k.answer.1 r s in subst P (sym is) (takes_too_long s k.answer.1 k.answer.2) }, tt);
 }
 
--- no check that comes after memory is built
-none_late : (s : State) (request : Request) → HasNoCause (late_checks_of s request)
-none_late s request.Nothing = tt
-none_late s (request.Change (Net name width)) = tt
-none_late s (request.Change (Add name kind nets)) = tt
-none_late s (request.Change (Measure net cycle value)) = tt
-none_late s (request.Change (Cycles count)) = tt
-none_late s (request.Change (Retract net cycle)) = tt
-none_late s (request.Change Undo) = tt
-none_late s (request.Change (Cost name cost)) = tt
-none_late s (request.Change (Stuck name value cost)) = tt
-none_late s (request.Change (Acts name kind cost)) = tt
-none_late s (request.Change (Define block)) = tt
-none_late s (request.Change (Pin block name width)) = tt
-none_late s (request.Change (Inside block name kind nets)) = tt
-none_late s (request.Change (UseBlock block name nets)) = tt
-none_late s (request.Query (Label net cycle)) = tt
-none_late s (request.Query Conflicts) = tt
-none_late s (request.Query Diagnose) = tt
-none_late s (request.Query Probe) = tt
-none_late s (request.Query (Explain net cycle value)) = tt
-none_late s (request.Query (Why number)) = tt
-none_late s (request.Query Show) = tt
-none_late s (request.Query (First number)) = tt
-none_late s (request.Query (Modes number)) = tt
-none_late s (request.Query (OpenBlock name)) = tt
-
 -- a line that asks a request is answered as the request is
 pub takes : (old : State) (line : List ℕ) (request : Request) (reply : Reply) (new : State) → Reads line (Ok request) → Serves old request reply new → Takes old line reply new
-takes old line request (Text text) new reads s = served request reads s.0 (none_late old request) s.1
-takes old line request (Refused refusal) new reads s = refused request reads refusal s.0 refl s.1
+takes old line request (Text text) new reads s = served request reads s.0 s.1 s.2
+takes old line request (Refused refusal) new reads s = elim s.0 as (λ _. Takes old line (Refused refusal) new) [
+  | inl early ↦ refused request reads refusal early refl s.1
+  | inr late ↦ refused_late request reads late.0 refusal late.1 refl s.1
+]
 takes old line request NoMemory new reads s = (record { request = request; asks = reads; free = s.0; wants = s.1 }, s.2)
 
 -- a line with a fault is refused by it

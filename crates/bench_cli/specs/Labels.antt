@@ -12,7 +12,7 @@ use Rattle.circuit_model.specs.Printed.{Labelled}
 use Rattle.circuit_model.specs.Stock.{Stock, IsInLabel}
 use Rattle.standing_view.specs.Standing.{Stands}
 use Rattle.standing_view.specs.View.{StandsFor}
-use Rattle.bench_cli.specs.Puts.{Puts}
+use Rattle.bench_io.specs.Puts.{Puts}
 use Rattle.bench_cli.specs.Texts.{label_lines}
 
 -- the word with the environment

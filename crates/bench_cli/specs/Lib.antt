@@ -11,5 +11,4 @@ pub mod Serving
 pub mod Session
 pub mod Program
 pub mod Causes
-pub mod Puts
 pub mod Turns

@@ -1,8 +1,9 @@
 -- What lines are answered.
 use Rattle.std.specs.Prelude.{ℕ, Bool, true, false, ◌||◌, List, [], ◌∷◌, ◌++◌, codes, decimal}
 use Rattle.netlist_text.specs.Faults as faults
+use Rattle.netlist_text.specs.Misfits as misfits
 use Rattle.bench_cli.specs.declared.replies.Refusal.{Refusal}
-use Rattle.bench_cli.specs.declared.replies.Refusal.TheVariants.{LineTooLong, Unreadable, NameTaken, UnknownNet, BadWidth, WidthsDisagree, BadCycle, ValueDoesNotFit, NetsFull, ComponentsFull, CellsFull, MeasurementsFull, AlreadyMeasured, NotBuilt}
+use Rattle.bench_cli.specs.declared.replies.Refusal.TheVariants.{LineTooLong, Unreadable, Misfit, TooManyDiagnoses, BadCount, NotBuilt}
 
 -- the reply to a line: text, a refusal, or the refusal for want of memory
 pub data Reply : Type 0 where
@@ -14,34 +15,18 @@ pub data Reply : Type 0 where
 abbrev pub number_of : Refusal → ℕ
 number_of LineTooLong = 10
 number_of (Unreadable fault) = faults.number_of fault
-number_of NameTaken = 20
-number_of UnknownNet = 21
-number_of BadWidth = 22
-number_of WidthsDisagree = 23
-number_of BadCycle = 24
-number_of ValueDoesNotFit = 25
-number_of NetsFull = 30
-number_of ComponentsFull = 31
-number_of CellsFull = 32
-number_of MeasurementsFull = 33
-number_of AlreadyMeasured = 40
+number_of (Misfit misfit) = misfits.number_of misfit
+number_of TooManyDiagnoses = 45
+number_of BadCount = 47
 number_of NotBuilt = 50
 
 -- its text
 abbrev pub text_of_refusal : Refusal → List ℕ
 text_of_refusal LineTooLong = codes "line too long"
 text_of_refusal (Unreadable fault) = faults.text_of fault
-text_of_refusal NameTaken = codes "name taken"
-text_of_refusal UnknownNet = codes "unknown net"
-text_of_refusal BadWidth = codes "bad width"
-text_of_refusal WidthsDisagree = codes "widths disagree"
-text_of_refusal BadCycle = codes "bad cycle"
-text_of_refusal ValueDoesNotFit = codes "value does not fit"
-text_of_refusal NetsFull = codes "nets full"
-text_of_refusal ComponentsFull = codes "components full"
-text_of_refusal CellsFull = codes "cells full"
-text_of_refusal MeasurementsFull = codes "measurements full"
-text_of_refusal AlreadyMeasured = codes "already measured"
+text_of_refusal (Misfit misfit) = misfits.text_of misfit
+text_of_refusal TooManyDiagnoses = codes "too many diagnoses"
+text_of_refusal BadCount = codes "bad count"
 text_of_refusal NotBuilt = codes "not built"
 
 -- the line of a refusal with this number and this text

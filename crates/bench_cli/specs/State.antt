@@ -4,17 +4,24 @@ use Rattle.std.specs.List.{list_any}
 use Rattle.circuit_model.specs.declared.model.Cell.{Cell}
 use Rattle.circuit_model.specs.declared.model.Fact.{Fact}
 use Rattle.circuit_model.specs.Closure.{fact}
-use Rattle.circuit_model.specs.Present.{PresentView}
+use Rattle.circuit_model.specs.Present.{PresentView, circuit_of}
 use Rattle.circuit_model.specs.Printed.{Labelled, IsPrintedLabel}
 use Rattle.standing_view.specs.View.{is_fact}
 use Rattle.bench_io.specs.declared.limits.TheConstants.{LONGEST_LINE}
 use Rattle.netlist_text.specs.Grammar.{reading_of}
+use Rattle.netlist_text.specs.Lookups.{cell_of}
+use Rattle.netlist_text.specs.Show.{text_of}
 use Rattle.netlist_text.specs.declared.faults.LineFault.{LineFault}
 use Rattle.bench_cli.specs.Replies.{Reply, Text, Refused, NoMemory, Exchange}
-use Rattle.bench_cli.specs.Texts.{label_lines}
+use Rattle.circuit_model.specs.Diagnoses.{IsDiagnosis}
+use Rattle.circuit_model.specs.Probe.{positions_in, AreConflicts, AreDiagnoses}
+use Rattle.environment_sets.specs.Costs.{ComesBeforeByCost}
+use Rattle.environment_sets.specs.Sets.{Set}
+use Rattle.first_diagnoses.specs.First.{AreFirst}
+use Rattle.bench_cli.specs.Texts.{label_lines, components_lines}
 use Rattle.bench_cli.specs.Checks.{checks_of, first_refusal, late_checks_of, IsFirstCause, HasNoCause}
 pub use Rattle.bench_cli.specs.Presents.{State, empty}
-use Rattle.bench_cli.specs.Presents.{cell_of, after}
+use Rattle.bench_cli.specs.Presents.{after}
 use Rattle.bench_cli.specs.declared.replies.Refusal.{Refusal}
 use Rattle.bench_cli.specs.declared.replies.Refusal.TheVariants.{LineTooLong, Unreadable}
 use Rattle.netlist_text.specs.declared.requests.Change.TheVariants.{Net, Add, Measure, Cycles, Retract, Undo, Cost, Stuck, Acts, Define, Pin, Inside, UseBlock}
@@ -29,16 +36,26 @@ pub record IsLabelReply (s : PresentView) (c : Cell) (text : List ℕ) : Type 0 
   pub exact : IsPrintedLabel s c label
   pub lines : text ≡ label_lines s c label ++ codes "ok\n"
 
+-- the text lists sets of components of which this holds, a line for each, and `ok`
+pub record IsSetsReply (s : PresentView) (Are : List (Set ℕ) → Type 0) (text : List ℕ) : Type 0 where
+  pub sets : List (Set ℕ)
+  pub are : Are sets
+  pub lines : text ≡ components_lines s sets ++ codes "ok\n"
+
+-- the first so many diagnoses by cost, or all where there are fewer
+abbrev pub AreFirstDiagnoses : PresentView → ℕ → List (Set ℕ) → Type 0
+AreFirstDiagnoses s number = AreFirst (ComesBeforeByCost (positions_in (circuit_of s)) (circuit_of s).costs) (IsDiagnosis (circuit_of s)) number
+
 -- The text is the answer to the question. One that is not built has none.
 abbrev pub IsAnswer : PresentView → Query → List ℕ → Type 0
 IsAnswer s (Label net cycle) text = IsLabelReply s (cell_of s net cycle) text
-IsAnswer s Conflicts text = ⊥
-IsAnswer s Diagnose text = ⊥
+IsAnswer s Conflicts text = IsSetsReply s (AreConflicts (circuit_of s)) text
+IsAnswer s Diagnose text = IsSetsReply s (AreDiagnoses (circuit_of s)) text
 IsAnswer s Probe text = ⊥
 IsAnswer s (Explain net cycle value) text = ⊥
 IsAnswer s (Why number) text = ⊥
-IsAnswer s Show text = ⊥
-IsAnswer s (First number) text = ⊥
+IsAnswer s Show text = text ≡ text_of s
+IsAnswer s (First number) text = IsSetsReply s (AreFirstDiagnoses s number) text
 IsAnswer s (Modes number) text = ⊥
 IsAnswer s (OpenBlock name) text = ⊥
 
@@ -76,20 +93,20 @@ wants_memory s (request.Change (Cycles count)) = false
 wants_memory s (request.Change (Retract net cycle)) = false
 wants_memory s (request.Change Undo) = false
 wants_memory s (request.Change (Cost name cost)) = false
-wants_memory s (request.Change (Stuck name value cost)) = false
-wants_memory s (request.Change (Acts name kind cost)) = false
-wants_memory s (request.Change (Define block)) = false
-wants_memory s (request.Change (Pin block name width)) = false
-wants_memory s (request.Change (Inside block name kind nets)) = false
-wants_memory s (request.Change (UseBlock block name nets)) = false
+wants_memory s (request.Change (Stuck name value cost)) = true
+wants_memory s (request.Change (Acts name kind cost)) = true
+wants_memory s (request.Change (Define block)) = true
+wants_memory s (request.Change (Pin block name width)) = true
+wants_memory s (request.Change (Inside block name kind nets)) = true
+wants_memory s (request.Change (UseBlock block name nets)) = true
 wants_memory s (request.Query (Label net cycle)) = false
-wants_memory s (request.Query Conflicts) = false
-wants_memory s (request.Query Diagnose) = false
+wants_memory s (request.Query Conflicts) = true
+wants_memory s (request.Query Diagnose) = true
 wants_memory s (request.Query Probe) = false
 wants_memory s (request.Query (Explain net cycle value)) = false
 wants_memory s (request.Query (Why number)) = false
 wants_memory s (request.Query Show) = false
-wants_memory s (request.Query (First number)) = false
+wants_memory s (request.Query (First number)) = true
 wants_memory s (request.Query (Modes number)) = false
 wants_memory s (request.Query (OpenBlock name)) = false
 

@@ -1,24 +1,15 @@
 -- How cells, facts and environments are printed.
-use Rattle.std.specs.Prelude.{ℕ, suc, slice_get, ◌==◌, if◌then◌else◌, List, [], ◌∷◌, ◌++◌, codes, decimal, map}
+use Rattle.std.specs.Prelude.{ℕ, suc, if◌then◌else◌, List, [], ◌∷◌, ◌++◌, codes, decimal, map}
 use Rattle.std.specs.List.{filter, join_with_byte}
-use Rattle.std.specs.Option.{option_map_or}
 use Rattle.environment_sets.specs.Sets.{Set}
 use Rattle.circuit_model.specs.declared.model.Cell.{Cell}
 use Rattle.circuit_model.specs.declared.model.Fact.{Fact}
 use Rattle.circuit_model.specs.declared.present.Component.{Component}
-use Rattle.circuit_model.specs.declared.present.Net.{Net}
 use Rattle.circuit_model.specs.Present.{PresentView}
 use Rattle.circuit_model.specs.Closure.{fact}
 use Rattle.circuit_model.specs.Diagnoses.{Place, AtPart, AtCell}
 use Rattle.circuit_model.specs.Printed.{Labelled}
-
--- the name of the net at the place
-abbrev pub name_at : List Net → ℕ → List ℕ
-name_at nets place = option_map_or (λ n. n.name) (slice_get nets place) []
-
--- the net's name, and where the cycle is not 0, `@` and the cycle
-abbrev pub cell_text : PresentView → Cell → List ℕ
-cell_text s c = name_at s.nets c.net ++ (if c.cycle == 0 then [] else codes "@" ++ decimal c.cycle)
+use Rattle.netlist_text.specs.Show.{cell_text}
 
 -- the cell, `=` and the value
 abbrev pub fact_text : PresentView → Fact → List ℕ
@@ -36,6 +27,20 @@ cells_in s E readings = map (λ f. cell_text s f.cell) (filter (λ f. E (AtCell 
 -- `{`, the components' names, `;`, the measured cells, `}`
 abbrev pub environment_text : PresentView → Set Place → List ℕ
 environment_text s E = codes "{" ++ join_with_byte 44 (part_names_in E 0 s.parts) ++ codes ";" ++ join_with_byte 44 (cells_in s E s.readings) ++ codes "}"
+
+-- the names of the components at these positions, in order, from this position on
+abbrev pub component_names : Set ℕ → ℕ → List Component → List (List ℕ)
+component_names C position [] = []
+component_names C position (p ∷ parts) = if C position then p.name ∷ component_names C (suc position) parts else component_names C (suc position) parts
+
+-- `{`, the components' names, `}`
+abbrev pub components_text : PresentView → Set ℕ → List ℕ
+components_text s C = codes "{" ++ join_with_byte 44 (component_names C 0 s.parts) ++ codes "}"
+
+-- a line for each set of components
+abbrev pub components_lines : PresentView → List (Set ℕ) → List ℕ
+components_lines s [] = []
+components_lines s (C ∷ Cs) = (components_text s C ++ codes "\n") ++ components_lines s Cs
 
 -- a fact, a space and an environment
 abbrev pub label_line : PresentView → Fact → Set Place → List ℕ

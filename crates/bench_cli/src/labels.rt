@@ -7,8 +7,8 @@ ghost use Rattle.standing_view.specs.View.{StandsFor};
 ghost use Rattle.bench_cli.specs.Labels.{PutsLabel};
 ghost use Rattle.bench_cli.specs.Texts.{label_lines};
 
-use crate::texts::{put, put_label_line};
-use bench_io::{Failed, Sink};
+use crate::texts::put_label_line;
+use bench_io::{Failed, Sink, put};
 use circuit_model::{Cell, Fact, Present};
 use label_engine::Engine;
 use standing_view::{Standing, label_after, value_after};

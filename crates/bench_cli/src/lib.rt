@@ -8,8 +8,8 @@ ghost use Rattle.bench_cli.specs.Statuses.{number_of};
 ghost use Rattle.bench_cli.specs.Words.{IsRun};
 
 mod changes;
-mod checks;
 mod labels;
+mod questions;
 mod remembering;
 mod replies;
 mod session;

@@ -1,7 +1,6 @@
 // What the present holds is remembered by the engine, and stands.
-ghost use Rattle.std.specs.Prelude.{◌≡◌, ◌<◌, length, None, IfOk, IfErr, []};
-ghost use Rattle.circuit_model.specs.Present.{reading_in, with_standing, without_last_part};
-ghost use Rattle.circuit_model.specs.declared.limits.TheConstants.{MOST_READINGS};
+ghost use Rattle.std.specs.Prelude.{◌≡◌, ◌<◌, ◌-◌, length, None, IfOk, IfErr, []};
+ghost use Rattle.circuit_model.specs.Present.{IsUnusedPart, reading_in, with_standing, without_standing, without_last_part};
 ghost use Rattle.assumption_slots.specs.Slots.{stock};
 ghost use Rattle.standing_view.specs.View.{StandsFor};
 
@@ -19,6 +18,7 @@ pub fn remember_last(
     standing: &mut Standing,
 ) -> Result<(), AllocError>
     requires some { 0 < length present.now.parts }
+    requires unused { IsUnusedPart present.now (length present.now.parts - 1) }
     requires stands { StandsFor (stock engine.old.slots) standing.old (without_last_part present.now) [] }
     ensures ok { IfOk result (λ _. StandsFor (stock engine.new.slots) standing.new present.now []) }
     ensures err { IfErr result (λ _. StandsFor (stock engine.new.slots) standing.new (without_last_part present.now) []) }
@@ -34,19 +34,20 @@ pub fn remember_last(
     }
 }
 
-/// A measurement that does not stand yet. After an error all is as before.
+/// A measurement of the present, which does not stand yet. After an error all is as before.
 pub fn remember_reading(
     present: &Present,
     engine: &mut Engine,
     standing: &mut Standing,
     fact: Fact,
 ) -> Result<(), AllocError>
-    requires free { reading_in present.now.readings fact.cell ≡ None }
-    requires room { length present.now.readings < MOST_READINGS }
-    requires stands { StandsFor (stock engine.old.slots) standing.old present.now [] }
-    ensures ok { IfOk result (λ _. StandsFor (stock engine.new.slots) standing.new (with_standing fact present.now) []) }
-    ensures err { IfErr result (λ _. StandsFor (stock engine.new.slots) standing.new present.now []) }
+    requires free { reading_in (without_standing fact.cell present.now).readings fact.cell ≡ None }
+    requires listed { with_standing fact (without_standing fact.cell present.now) ≡ present.now }
+    requires stands { StandsFor (stock engine.old.slots) standing.old (without_standing fact.cell present.now) [] }
+    ensures ok { IfOk result (λ _. StandsFor (stock engine.new.slots) standing.new present.now []) }
+    ensures err { IfErr result (λ _. StandsFor (stock engine.new.slots) standing.new (without_standing fact.cell present.now) []) }
 {
+    // For the proof alone: the present is lawful.
     let _readings = present.readings();
     match engine.assume(Assumption::Reading(fact), &mut Oldest) {
         Ok(slot) => {

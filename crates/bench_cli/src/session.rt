@@ -4,15 +4,16 @@ ghost use Rattle.bench_io.specs.Causes.{Rose};
 ghost use Rattle.bench_cli.specs.Session.{Session, WhereTold};
 ghost use Rattle.bench_cli.specs.Causes.{TakesTooMuch};
 ghost use Rattle.bench_cli.specs.Turns.{Steps, tally_after, status_of, status_at};
-ghost use Rattle.bench_cli.specs.Answers.{IsReply};
-ghost use Rattle.bench_cli.specs.Replies.{Reply};
+ghost use Rattle.bench_cli.specs.Answers.{IsReply, IsWritable};
+ghost use Rattle.bench_cli.specs.Replies.{Reply, text_of};
+ghost use Rattle.bench_io.specs.Writing.{Writes};
 ghost use Rattle.bench_cli.specs.State.{State};
 
 use crate::Status;
 use crate::replies::{Answer, Refusal};
 use crate::state::Bench;
 use crate::writing::write_answer;
-use bench_io::{Line, LineReader, ReadStop, Sink, Source};
+use bench_io::{Failed, Line, LineReader, ReadStop, Sink, Source};
 use std::alloc::Global;
 
 // What was answered so far.
@@ -28,7 +29,12 @@ impl Tally {
         ensures { (s : State) (reply : Reply) → IsReply s answer.now reply → self.new ≡ tally_after self.old reply }
     {
         match answer {
-            Answer::Nothing | Answer::Accepted | Answer::Label { .. } => {}
+            Answer::Nothing
+            | Answer::Accepted
+            | Answer::Label { .. }
+            | Answer::Conflicts(_)
+            | Answer::Diagnoses(_)
+            | Answer::Show => {}
             Answer::Refused(_) => self.refused = true,
             Answer::NoMemory => self.no_memory = true,
         }
@@ -74,6 +80,21 @@ fn step<S: Source>(
     }
 }
 
+// Takes note of the answer, and writes its reply. At `Err` a front of it was written.
+fn reply<K: Sink>(
+    tally: &mut Tally,
+    bench: &Bench,
+    answer: Answer,
+    sink: &mut K,
+) -> Result<(), Failed>
+    requires { IsWritable bench.now answer }
+    ensures { (reply : Reply) × IsReply bench.now answer reply × (tally.new ≡ tally_after tally.old reply)
+        × Writes (K.told sink.old) (K.told sink.new) result (text_of reply) }
+{
+    tally.note(&answer);
+    write_answer(bench, &answer, sink)
+}
+
 // The status of a session that ends so.
 fn status_at(ending: Ending, tally: &Tally) -> Status
     ensures { result ≡ status_at ending tally.now }
@@ -115,8 +136,7 @@ pub fn run<S: Source, K: Sink>(alloc: Global, source: &mut S, sink: &mut K) -> S
     loop {
         match step(&mut reader, &mut bench, source) {
             Ok(answer) => {
-                tally.note(&answer);
-                if let Err(_) = write_answer(&bench, &answer, sink) {
+                if let Err(_) = reply(&mut tally, &bench, answer, sink) {
                     return Status::WriteFault;
                 }
             }

@@ -8,11 +8,15 @@ ghost use Rattle.netlist_text.specs.Grammar.{AsksPadded};
 ghost use Rattle.bench_cli.specs.Serving.{Serves, Asked};
 ghost use Rattle.netlist_text.specs.declared.requests.Query.TheVariants as query;
 
-use crate::checks::check_cell;
 use crate::replies::{Answer, Refusal};
+use circuit_model::limits::MOST_ASKED;
 use circuit_model::{Name, Present};
+use diagnosis_order::DiagnosisStop;
+use environment_sets::EnvList;
+use hitting_sets::Hitter;
 use label_engine::Engine;
-use netlist_text::{Query, Request, read_line};
+use netlist_text::{Query, Request, check_cell, read_line};
+use standing_diagnoses::{conflicts_of, diagnoses_of, first_of};
 use standing_view::Standing;
 use std::alloc::{AllocError, Global};
 use std::marker::Model;
@@ -25,6 +29,8 @@ pub struct Bench {
     pub(crate) present: Present,
     pub(crate) engine: Engine,
     pub(crate) standing: Standing,
+    // what is kept from question to question; it alters no answer
+    pub(crate) hitter: Hitter,
 }
 
 impl Model for Bench {
@@ -50,6 +56,7 @@ impl Bench {
             present: Present::open(alloc)?,
             engine: Engine::open(alloc)?,
             standing: Standing::open(alloc)?,
+            hitter: Hitter::open(alloc),
         })
     }
 
@@ -80,21 +87,66 @@ impl Bench {
     }
 
     // Answers a question.
-    fn ask(&self, query: &Query) -> Answer
-        ensures answers { Asked self.now query.now result }
-        ensures writable { IsWritable self.now result }
+    fn ask(&mut self, query: &Query) -> Answer
+        ensures answers { Asked self.old query.now result }
+        ensures same { self.new ≡ self.old }
+        ensures writable { IsWritable self.new result }
     {
         match query {
             Query::Label { net, cycle } => self.label(net, *cycle),
-            Query::Conflicts
-            | Query::Diagnose
-            | Query::Probe
+            Query::Conflicts => self.conflicts(),
+            Query::Diagnose => self.diagnoses(),
+            Query::Show => Answer::Show,
+            Query::First { number } => self.first(*number),
+            Query::Probe
             | Query::Explain { .. }
             | Query::Why { .. }
-            | Query::Show
-            | Query::First { .. }
             | Query::Modes { .. }
             | Query::OpenBlock { .. } => Answer::Refused(Refusal::NotBuilt),
+        }
+    }
+
+    // All conflicts.
+    fn conflicts(&self) -> Answer
+        ensures answers { Asked self.now query.Conflicts result }
+        ensures writable { IsWritable self.now result }
+    {
+        match conflicts_of(self.alloc, &self.engine, &self.standing) {
+            Ok(found) => Answer::Conflicts(EnvList::of(found)),
+            Err(_) => Answer::NoMemory,
+        }
+    }
+
+    // All diagnoses.
+    fn diagnoses(&mut self) -> Answer
+        ensures answers { Asked self.old query.Diagnose result }
+        ensures same { self.new ≡ self.old }
+        ensures writable { IsWritable self.new result }
+    {
+        let Ok(conflicts) = conflicts_of(self.alloc, &self.engine, &self.standing) else {
+            return Answer::NoMemory;
+        };
+        match diagnoses_of(self.alloc, &mut self.hitter, &self.present, &conflicts) {
+            Ok(found) => Answer::Diagnoses(EnvList::of(found)),
+            Err(DiagnosisStop::TooMany { .. }) => Answer::Refused(Refusal::TooManyDiagnoses),
+            Err(DiagnosisStop::OutOfMemory) => Answer::NoMemory,
+        }
+    }
+
+    // The first diagnoses, so many as the number says.
+    fn first(&self, number: u64) -> Answer
+        ensures answers { Asked self.now (query.First number) result }
+        ensures writable { IsWritable self.now result }
+    {
+        if number == 0 || number > MOST_ASKED {
+            return Answer::Refused(Refusal::BadCount);
+        }
+        let Ok(conflicts) = conflicts_of(self.alloc, &self.engine, &self.standing) else {
+            return Answer::NoMemory;
+        };
+        match first_of(self.alloc, &self.present, &conflicts, number as usize) {
+            Ok(found) => Answer::Diagnoses(EnvList::of(found)),
+            Err(_) => Answer::NoMemory,
         }
     }
 
@@ -104,7 +156,7 @@ impl Bench {
     {
         match check_cell(&self.present, net, cycle) {
             Ok(cell) => Answer::Label { cell },
-            Err(refusal) => Answer::Refused(refusal),
+            Err(misfit) => Answer::Refused(Refusal::Misfit(misfit)),
         }
     }
 }

@@ -1,64 +1,18 @@
 // How cells, facts and environments are written, without memory.
-ghost use Rattle.std.specs.Prelude.{◌<◌, ◌==◌, ◌++◌, codes, decimal, length, [], if◌then◌else◌};
+ghost use Rattle.std.specs.Prelude.{◌<◌, ◌++◌, codes, length, if◌then◌else◌};
 ghost use Rattle.std.specs.List.{join_with_byte};
 ghost use Rattle.bench_cli.specs.Labels.{StandsForPresent};
-ghost use Rattle.bench_cli.specs.Puts.{Puts};
+ghost use Rattle.bench_io.specs.Puts.{Puts};
 ghost use Rattle.environment_sets.specs.Members.{members};
 ghost use Rattle.standing_view.specs.View.{places};
-ghost use Rattle.bench_cli.specs.Texts.{cell_text, fact_text, part_names_in, cells_in, environment_text, label_line};
+ghost use Rattle.netlist_text.specs.Show.{cell_text};
+ghost use Rattle.bench_cli.specs.Texts.{fact_text, part_names_in, cells_in, environment_text, label_line};
 
-use bench_io::{Sink, write_all};
+use bench_io::{Sink, put, put_number, put_piece};
 use circuit_model::{Cell, Fact, Present};
 use environment_sets::Env;
-use itoa::Buffer;
+use netlist_text::put_cell;
 use standing_view::Standing;
-
-/// Writes the bytes, unless a write has failed before. It answers whether one has failed.
-pub fn put<K: Sink>(sink: &mut K, failed: bool, bytes: &[u8]) -> bool
-    ensures { Puts failed result (K.told sink.old) (K.told sink.new) bytes.now }
-{
-    if failed {
-        return true;
-    }
-    write_all(sink, bytes).is_err()
-}
-
-fn put_number<K: Sink>(sink: &mut K, failed: bool, number: u64) -> bool
-    ensures { Puts failed result (K.told sink.old) (K.told sink.new) (decimal number) }
-{
-    let mut buffer = Buffer::new();
-    put(sink, failed, buffer.format(number).as_bytes())
-}
-
-// A piece of a list, after a comma unless it is the first.
-fn put_piece<K: Sink>(sink: &mut K, failed: bool, is_first: bool, piece: &[u8]) -> bool
-    ensures { Puts failed result (K.told sink.old) (K.told sink.new) (if is_first then piece.now else codes "," ++ piece.now) }
-{
-    if is_first {
-        return put(sink, failed, piece);
-    }
-    let failed = put(sink, failed, b",");
-    put(sink, failed, piece)
-}
-
-fn put_cycle<K: Sink>(sink: &mut K, failed: bool, cycle: u8) -> bool
-    ensures { Puts failed result (K.told sink.old) (K.told sink.new) (if cycle == 0 then [] else codes "@" ++ decimal cycle) }
-{
-    if cycle == 0 {
-        return put(sink, failed, b"");
-    }
-    let failed = put(sink, failed, b"@");
-    put_number(sink, failed, cycle as u64)
-}
-
-fn put_cell<K: Sink>(sink: &mut K, failed: bool, present: &Present, cell: Cell) -> bool
-    requires { cell.net < length present.now.nets }
-    ensures { Puts failed result (K.told sink.old) (K.told sink.new) (cell_text present.now cell) }
-{
-    let (name, _) = present.net_at(cell.net);
-    let failed = put(sink, failed, name.bytes());
-    put_cycle(sink, failed, cell.cycle)
-}
 
 fn put_fact<K: Sink>(sink: &mut K, failed: bool, present: &Present, fact: Fact) -> bool
     requires { fact.cell.net < length present.now.nets }

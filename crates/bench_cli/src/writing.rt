@@ -2,16 +2,21 @@
 ghost use Rattle.std.specs.Prelude.{◌<◌, ◌++◌, List, codes, length};
 ghost use Rattle.bench_io.specs.Writing.{Writes};
 ghost use Rattle.circuit_model.specs.Printed.{Labelled, IsPrintedLabel};
-ghost use Rattle.bench_cli.specs.Texts.{label_lines};
+ghost use Rattle.bench_cli.specs.Texts.{label_lines, components_lines};
+ghost use Rattle.environment_sets.specs.Members.{sets};
 ghost use Rattle.bench_cli.specs.Replies.{Reply, text_of, refusal_line};
+ghost use Rattle.netlist_text.specs.Show as show;
 ghost use Rattle.bench_cli.specs.Answers.{IsReply, IsWritable};
 
 use crate::labels::write_label;
+use crate::questions::write_sets;
 use crate::replies::Answer;
 use crate::state::Bench;
 use bench_io::{Failed, Sink, write_all, write_pieces};
 use circuit_model::Cell;
+use environment_sets::EnvList;
 use itoa::Buffer;
+use netlist_text::write_present;
 
 /// The number of the refusal for want of memory.
 const NO_MEMORY: u64 = 90;
@@ -34,6 +39,20 @@ impl Bench {
     {
         write_label(&self.present, &self.engine, &self.standing, cell, sink)
     }
+
+    // Writes a line for each set of components, and `ok`.
+    fn write_sets<K: Sink>(&self, found: &EnvList, sink: &mut K) -> Result<(), Failed>
+        ensures { Writes (K.told sink.old) (K.told sink.new) result (components_lines self.now.present (sets found.now) ++ codes "ok\n") }
+    {
+        write_sets(&self.present, found, sink)
+    }
+
+    // Writes the text of the present.
+    fn write_present<K: Sink>(&self, sink: &mut K) -> Result<(), Failed>
+        ensures { Writes (K.told sink.old) (K.told sink.new) result (show.text_of self.now.present) }
+    {
+        write_present(&self.present, sink)
+    }
 }
 
 /// Writes the reply. At `Err` a front of it was written.
@@ -46,6 +65,9 @@ pub fn write_answer<K: Sink>(bench: &Bench, answer: &Answer, sink: &mut K) -> Re
         Answer::Nothing => write_all(sink, b""),
         Answer::Accepted => write_all(sink, b"ok\n"),
         Answer::Label { cell } => bench.write_label(*cell, sink),
+        Answer::Conflicts(found) => bench.write_sets(found, sink),
+        Answer::Diagnoses(found) => bench.write_sets(found, sink),
+        Answer::Show => bench.write_present(sink),
         Answer::Refused(refusal) => write_refusal(sink, refusal.number(), refusal.text()),
         Answer::NoMemory => write_refusal(sink, NO_MEMORY, b"no memory"),
     }

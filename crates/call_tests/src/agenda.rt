@@ -1,6 +1,6 @@
 // What waits, taken from any place.
 
-use propagation_agenda::{Agenda, Oldest, Picker};
+use propagation_agenda::{Agenda, Newest, Oldest, Picker, Seeded};
 use std::test::Fail;
 
 // Takes what the picker chooses, through its bound.
@@ -26,5 +26,23 @@ fn items_are_taken_from_any_place(rt: HostRuntime) -> Result<(), Fail> {
     agenda.push(5)?;
     agenda.clear();
     assert!(rt; agenda.is_empty());
+    Ok(())
+}
+
+// The first words of SplitMix64 from the seed 1234567, as its reference code gives them, modulo 1,000.
+#[test]
+fn a_seed_chooses_by_its_words(rt: HostRuntime) -> Result<(), Fail> {
+    let mut seeded = Seeded::new(1_234_567);
+    for wanted in [317, 973, 423, 431, 821] {
+        assert!(rt; seeded.pick(1_000) == wanted);
+    }
+    let mut agenda = Agenda::new(rt.alloc());
+    for item in [1, 2, 3] {
+        agenda.push(item)?;
+    }
+    for wanted in [Some(3), Some(2), Some(1), None] {
+        assert_eq!(rt; take_next(&mut agenda, &mut Newest), wanted);
+    }
+    assert_eq!(rt; take_next(&mut agenda, &mut seeded), None);
     Ok(())
 }

@@ -1,8 +1,8 @@
 // Names, instances and small circuits, with values worked out by hand, and presents at their limits.
 
-use crate::presents::{add, bits_over_cycles, declare, measure};
 use circuit_model::{Cell, Instance, Kind, Name, Named, Present, Prim, instances_of, limits};
-use std::process::Abort;
+use given_presents::present_of;
+use std::alloc::Global;
 use std::test::Fail;
 use word_domain::Width;
 
@@ -46,76 +46,50 @@ fn sums_over_cycles(rt: HostRuntime) -> Result<(), Fail> {
     Ok(())
 }
 
-// Twice the first net is the second.
-#[test]
-fn one_sum(rt: HostRuntime) -> Result<(), Fail> {
-    let mut present = Present::open(rt.alloc())?;
-    declare(&rt, &mut present, b"a", 4)?;
-    declare(&rt, &mut present, b"z", 4)?;
-    add(&rt, rt.alloc(), &mut present, b"sum", Kind::Add, [0, 0, 1])?;
-    measure(&rt, &mut present, 1, 9);
-    measure(&rt, &mut present, 0, 15);
-    assert_eq!(rt; found(&present, b"sum")?, Some(Named::Part(0)));
-    assert_eq!(rt; found(&present, b"z")?, Some(Named::Net(1)));
-    assert_eq!(rt; found(&present, b"b")?, None);
-    assert_eq!(rt; present.reading_at(Cell { net: 1, cycle: 0 }), Some(9));
-    assert_eq!(rt; first_word(&rt, &present), 15);
-    Ok(())
-}
-
 fn found(present: &Present, bytes: &[u8]) -> Result<Option<Named>, Fail> {
     let name = Name::new(bytes).ok_or("a name")?;
     Ok(present.find(&name))
 }
 
-fn first_word(rt: &impl Abort, present: &Present) -> u64 {
-    assert!(rt; present.readings() > 0);
-    present.reading(0).value
-}
-
+// Twice the first net is the second.
 #[test]
-fn most_nets(rt: HostRuntime) -> Result<(), Fail> {
-    let present = bits_over_cycles(&rt, rt.alloc(), limits::MOST_NETS, 1)?;
-    assert_eq!(rt; present.nets(), limits::MOST_NETS);
+fn one_sum(rt: HostRuntime) -> Result<(), Fail> {
+    let text = b"net a 4\nnet z 4\nadd sum a a z\nmeasure z 9\nmeasure a 15\n";
+    let present = present_of(rt.alloc(), text)?;
+    assert_eq!(rt; found(&present, b"sum")?, Some(Named::Part(0)));
+    assert_eq!(rt; found(&present, b"z")?, Some(Named::Net(1)));
+    assert_eq!(rt; found(&present, b"b")?, None);
+    assert_eq!(rt; present.reading_at(Cell { net: 1, cycle: 0 }), Some(9));
     Ok(())
 }
 
+// The lines of so many cycles, and then so many nets of one bit.
+fn bits(alloc: Global, cycles: u8, nets: u16) -> Result<Vec<u8>, Fail> {
+    let mut text = Vec::from_slice(alloc, format!(in alloc; "cycles {cycles}\n")?.as_bytes())?;
+    for net in 0..nets {
+        text.extend_from_slice(format!(in alloc; "net n{net} 1\n")?.as_bytes())?;
+    }
+    Ok(text)
+}
+
+// As many nets as there may be, each measured; and as many cells, and components with an instance at each cycle.
 #[test]
-fn most_cells(rt: HostRuntime) -> Result<(), Fail> {
+fn presents_at_their_limits(rt: HostRuntime) -> Result<(), Fail> {
+    let alloc = rt.alloc();
+    let mut text = bits(alloc, 1, limits::MOST_NETS)?;
+    for net in 0..limits::MOST_READINGS {
+        text.extend_from_slice(format!(in alloc; "measure n{net} 1\n")?.as_bytes())?;
+    }
+    let present = present_of(alloc, &text)?;
+    assert!(rt; present.nets() == limits::MOST_NETS && present.readings() == limits::MOST_READINGS);
     let cycles = limits::MOST_CYCLES;
     let nets = limits::MOST_CELLS / u16::from(cycles);
-    let present = bits_over_cycles(&rt, rt.alloc(), nets, cycles)?;
-    assert_eq!(rt; present.cycles(), cycles);
-    let cells = present.nets() * u16::from(present.cycles());
-    assert_eq!(rt; cells, limits::MOST_CELLS);
-    Ok(())
-}
-
-// Each of them stands for an instance at each of the most cycles.
-#[test]
-fn most_components(rt: HostRuntime) -> Result<(), Fail> {
-    let mut present = bits_over_cycles(&rt, rt.alloc(), 2, limits::MOST_CYCLES)?;
+    let mut text = bits(alloc, cycles, nets)?;
     for part in 0..limits::MOST_PARTS {
-        let name = format!(in rt.alloc(); "p{part}")?;
-        add(
-            &rt,
-            rt.alloc(),
-            &mut present,
-            name.as_bytes(),
-            Kind::Not,
-            [0, 1, 1],
-        )?;
+        text.extend_from_slice(format!(in alloc; "not p{part} n0 n1\n")?.as_bytes())?;
     }
-    assert_eq!(rt; present.parts(), limits::MOST_PARTS);
-    Ok(())
-}
-
-#[test]
-fn most_measurements(rt: HostRuntime) -> Result<(), Fail> {
-    let mut present = bits_over_cycles(&rt, rt.alloc(), limits::MOST_READINGS, 1)?;
-    for net in 0..limits::MOST_READINGS {
-        measure(&rt, &mut present, net, 1);
-    }
-    assert_eq!(rt; present.readings(), limits::MOST_READINGS);
+    let present = present_of(alloc, &text)?;
+    assert!(rt; present.nets() == nets && present.cycles() == cycles);
+    assert!(rt; present.parts() == limits::MOST_PARTS);
     Ok(())
 }

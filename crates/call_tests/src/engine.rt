@@ -128,3 +128,39 @@ fn a_component_makes_its_sum(rt: HostRuntime) -> Result<(), Fail> {
     assert_eq!(rt; engine.load_under(&all), 3);
     Ok(())
 }
+
+// The reading is forgotten, if it is remembered, and its slot leaves the mask.
+fn without_reading(engine: &mut Engine, mask: Env, fact: Fact) -> Env
+    requires { IsEnvironment (stock engine.old.slots) (members mask) }
+    ensures { IsEnvironment (stock engine.new.slots) (members result) }
+{
+    match engine.slot_of(fact) {
+        Some(slot) => {
+            engine.forget(slot);
+            mask.without(slot)
+        }
+        None => mask,
+    }
+}
+
+// One word after another at a term of an adder: what followed from the word before is gone, and its slot is given out again.
+#[test]
+fn what_is_forgotten_leaves_no_trace(rt: HostRuntime) -> Result<(), Fail> {
+    let width = Width::new(8).ok_or("a width")?;
+    let adder = instances_of(rt.alloc(), Kind::Add, [0, 1, 2], [width; 3], 1)?;
+    let mut engine = Engine::open(rt.alloc())?;
+    let none = no_slot(&engine);
+    let part = with_assumed(&mut engine, none, Assumption::Part(adder))?;
+    let mut mask = with_assumed(&mut engine, part, Assumption::Reading(word(0, 5)))?;
+    let sum = Cell { net: 2, cycle: 0 };
+    for value in [7, 8, 9] {
+        let all = with_assumed(&mut engine, mask, Assumption::Reading(word(1, value)))?;
+        assert_eq!(rt; engine.slot_of(word(1, value)), Some(2));
+        assert_eq!(rt; engine.values_after(sum, &all, None), Some(5 + value));
+        assert_eq!(rt; engine.load_under(&all), 3);
+        mask = without_reading(&mut engine, all, word(1, value));
+        assert_eq!(rt; engine.values_after(sum, &mask, None), None);
+        assert_eq!(rt; engine.load_under(&mask), 1);
+    }
+    Ok(())
+}

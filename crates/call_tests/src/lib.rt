@@ -12,8 +12,6 @@ mod engine;
 #[cfg(test)]
 mod inferences;
 #[cfg(test)]
-mod presents;
-#[cfg(test)]
 mod search;
 #[cfg(test)]
 mod sets;

@@ -23,6 +23,22 @@ fn measurements_stand_in_order_of_cells(rt: HostRuntime) -> Result<(), Fail> {
 }
 
 #[test]
+fn what_stands_no_more_leaves_its_place(rt: HostRuntime) -> Result<(), Fail> {
+    let mut standing = Standing::open(rt.alloc())?;
+    standing.add_part(5);
+    standing.add_part(0);
+    standing.restore(9, Cell { net: 2, cycle: 0 });
+    standing.restore(3, Cell { net: 0, cycle: 1 });
+    standing.drop_part();
+    assert!(rt; standing.order() == [5, 3, 9].as_slice());
+    standing.park(9);
+    assert!(rt; standing.order() == [5, 3].as_slice());
+    let mask = standing.mask();
+    assert!(rt; mask.size() == 2 && mask.has(3) && mask.has(5));
+    Ok(())
+}
+
+#[test]
 fn nothing_remembered_tells_nothing(rt: HostRuntime) -> Result<(), Fail> {
     let engine = Engine::open(rt.alloc())?;
     let standing = Standing::open(rt.alloc())?;

@@ -1,10 +1,10 @@
 -- The instances that a component stands for, one after the other; they are lawful.
-use Rattle.std.proofs.Common.{◌≡◌, ℕ, zero, suc, ◌+◌, ◌^◌, ◌<◌, ◌≤◌, List, [], ◌∷◌, ◌++◌, length, IsTrue, refl, sym, ap, ◌∙◌, arith, add-one}
+use Rattle.std.proofs.Common.{◌≡◌, ℕ, zero, suc, ◌+◌, ◌^◌, ◌<◌, ◌≤◌, List, [], ◌∷◌, ◌++◌, length, IsTrue, refl, sym, ap, ◌∙◌, arith, add-one, pow_pos}
 use Rattle.std.specs.Prelude.{◌==◌, ◌&&◌}
 use Rattle.std.proofs.lemmas.Bool.{and_parts, eqb-true, ltb-true}
 use Rattle.std.proofs.lemmas.List.Elements.{All-nil, All-cons}
 use Rattle.circuit_model.specs.declared.model.Kind.{Kind}
-use Rattle.circuit_model.specs.declared.model.Kind.TheVariants.{Const, Reg}
+use Rattle.circuit_model.specs.declared.model.Kind.TheVariants.{Const, Reg, Block}
 use Rattle.circuit_model.specs.declared.model.Instance.{Instance}
 use Rattle.circuit_model.specs.Kinds.{primitive_of, keep_rule, are_widths, fits_value, instance_at, each_cycle, reset_instance, carry_instance, register, instances}
 use Rattle.circuit_model.specs.Lawful.{WidthRule, AllTheSame, LastTheSum, RoomFor, width_rule, KeepRule, AreLawfulWidths, IsLawfulInstance, AreLawful}
@@ -45,6 +45,7 @@ kept_rule (RoomFor value) a b z h room = room value refl
 -- the value of a constant fits
 room_for : (kind : Kind) (a b z : ℕ) → IsTrue (fits_value kind (a ∷ b ∷ z ∷ [])) → (value : ℕ) → width_rule (primitive_of kind) ≡ RoomFor value → value < 2 ^ a
 room_for (Const w) a b z v value e = let same : w ≡ value = cc in rw (← same) (ltb-true _ _ v)
+room_for (Block block) a b z v value e = let same : 0 ≡ value = cc in rw (← same) (pow_pos a)
 room_for kind a b z v value e = cc
 
 -- widths that keep the kind's rule are lawful for its relation
@@ -65,6 +66,7 @@ lawful_register reset nets a b z (suc n) h v = let widths : List ℕ = a ∷ b �
 
 lawful_of_three : (kind : Kind) (nets : List ℕ) (a b z n : ℕ) → IsTrue (are_widths kind (a ∷ b ∷ z ∷ [])) → IsTrue (fits_value kind (a ∷ b ∷ z ∷ [])) → AreLawful (instances kind nets (a ∷ b ∷ z ∷ []) n)
 lawful_of_three (Reg reset) nets a b z n h v = lawful_register reset nets a b z n h v
+lawful_of_three (Block block) nets a b z n h v = All-nil IsLawfulInstance
 lawful_of_three kind nets a b z n h v = lawful_cycles kind nets a b z n h v
 
 -- the instances of a component with lawful widths are lawful

@@ -1,4 +1,4 @@
-pub mod Cells
+pub mod SameCells
 pub mod Inferences
 pub mod Monotony
 pub mod Rounds
@@ -16,3 +16,8 @@ pub mod Listed
 pub mod Decided
 pub mod Splitting
 pub mod Derivations
+pub mod RowLemmas
+pub mod Changes
+pub mod Moves
+pub mod PresentChanges
+pub mod Openings

@@ -1,5 +1,5 @@
 -- What a further measurement keeps.
-use Rattle.std.proofs.Common.{◌≡◌, ℕ, zero, suc, ◌+◌, ◌<◌, ◌⊎◌, inl, inr, Bool, true, false, cond, List, [], ◌∷◌, length, slice_get, Option, Some, None, IsTrue, refl, sym, ap, subst, ◌∙◌, arith}
+use Rattle.std.proofs.Common.{◌≡◌, ℕ, zero, suc, ◌+◌, ◌<◌, ◌≤◌, ◌⊎◌, inl, inr, Bool, true, false, cond, List, [], ◌∷◌, length, slice_get, Option, Some, None, IsTrue, refl, sym, ap, subst, ◌∙◌, arith}
 use Rattle.std.specs.List.{All}
 use Rattle.std.proofs.lemmas.Bool.{both_ways, cond_both, cond-true, cond-false}
 use Rattle.std.proofs.lemmas.Option.{slice_get_within, get_or_from_slice_get}
@@ -8,9 +8,10 @@ use Rattle.environment_sets.specs.Lists.{IsIn, IsRising}
 use Rattle.environment_sets.proofs.Membership.{IsIn-slice_get}
 use Rattle.circuit_model.specs.declared.model.Cell.{Cell}
 use Rattle.circuit_model.specs.declared.model.Fact.{Fact}
-use Rattle.circuit_model.specs.Present.{PresentView, is_cell, is_cell_before, reading_in, with_reading, with_standing, IsLawfulComponent, IsFactOf, IsLawful}
+use Rattle.circuit_model.specs.Present.{PresentView, is_cell, is_cell_before, reading_in, with_reading, with_standing, without_reading, without_standing, IsLawfulComponent, IsLawfulMode, IsFactOf, IsLawful}
+use Rattle.circuit_model.proofs.Moves.{component_same, fact_same, mode_same}
 use Rattle.circuit_model.specs.declared.limits.TheConstants.{MOST_READINGS}
-use Rattle.circuit_model.proofs.Cells.{same_cell, same_cells, cell_itself, comes_after, not_before_itself, before_apart, before_trans}
+use Rattle.circuit_model.proofs.SameCells.{same_cell, same_cells, cell_itself, comes_after, not_before_itself, before_apart, before_trans}
 use Rattle.circuit_model.specs.declared.present.Component.{Component}
 
 abbrev pub ComesBefore : Fact → Fact → Type 0
@@ -123,7 +124,7 @@ module _ (s : PresentView) (lawful : IsLawful s) (k : ℕ) (f : Fact) (at : slic
 
 module _ (f : Fact) (s : PresentView) where
   IsLawfulComponent-with_standing : (c : Component) → IsLawfulComponent s c → IsLawfulComponent (with_standing f s) c
-  IsLawfulComponent-with_standing c h = record { three = h.three; nets = h.nets; unused = h.unused; widths = h.widths; value = h.value; part = h.part }
+  IsLawfulComponent-with_standing c h = component_same s (with_standing f s) refl refl refl c h
 
   IsFactOf-with_standing : (g : Fact) → IsFactOf s g → IsFactOf (with_standing f s) g
   IsFactOf-with_standing g h = record { net = h.net; cycle = h.cycle; fits = h.fits }
@@ -146,4 +147,57 @@ module _ (f : Fact) (s : PresentView) where
         each_part = All-weaker (IsLawfulComponent s) (IsLawfulComponent t) IsLawfulComponent-with_standing s.parts h.each_part;
         each_reading = All-with_reading (IsFactOf t) f s.readings (IsFactOf-with_standing f fact) (All-weaker (IsFactOf s) (IsFactOf t) IsFactOf-with_standing s.readings h.each_reading);
         rising = IsRising-with_reading f s.readings free h.rising;
+        modes = h.modes;
+        blocks = h.blocks;
+        block_names = h.block_names;
+        each_block = h.each_block;
+        each_mode = All-weaker (IsLawfulMode s) (IsLawfulMode t) (mode_same s t refl refl) s.modes h.each_mode;
       }
+
+IsIn-without_reading : (c : Cell) (readings : List Fact) (x : Fact) → IsIn (without_reading c readings) x → IsIn readings x
+IsIn-without_reading c [] x = λ h. h
+IsIn-without_reading c (f ∷ readings) x = cond_both (is_cell f.cell c) readings (f ∷ without_reading c readings) (λ (fs : List Fact). IsIn fs x → IsIn (f ∷ readings) x)
+    (λ _ h. inr h)
+    (λ _ h. elim h as (λ _. IsIn (f ∷ readings) x) [ inl e ↦ inl e | inr later ↦ inr (IsIn-without_reading c readings x later) ])
+
+IsRising-without_reading : (c : Cell) (readings : List Fact) → IsRising ComesBefore readings → IsRising ComesBefore (without_reading c readings)
+IsRising-without_reading c [] h = h
+IsRising-without_reading c (f ∷ readings) h = cond_both (is_cell f.cell c) readings (f ∷ without_reading c readings) (λ (fs : List Fact). IsRising ComesBefore fs)
+    (λ _. h.1)
+    (λ _. ((λ y at. h.0 y (IsIn-without_reading c readings y at)), IsRising-without_reading c readings h.1))
+
+All-without_reading : (P : Fact → Type 0) (c : Cell) (readings : List Fact) → All P readings → All P (without_reading c readings)
+All-without_reading P c [] h = h
+All-without_reading P c (f ∷ readings) h = cond_both (is_cell f.cell c) readings (f ∷ without_reading c readings) (λ (fs : List Fact). All P fs)
+    (λ _. All-tail P f readings h)
+    (λ _. All-cons P f (without_reading c readings) (All-head P f readings h) (All-without_reading P c readings (All-tail P f readings h)))
+
+length-without_reading : (c : Cell) (readings : List Fact) → length (without_reading c readings) ≤ length readings
+length-without_reading c [] = omega arith
+length-without_reading c (f ∷ readings) = cond_both (is_cell f.cell c) readings (f ∷ without_reading c readings) (λ (fs : List Fact). length fs ≤ length (f ∷ readings))
+    (λ _. omega arith)
+    (λ _. omega (arith, length-without_reading c readings))
+
+-- a present without a measurement is lawful
+pub IsLawful-without_standing : (c : Cell) (s : PresentView) → IsLawful s → IsLawful (without_standing c s)
+IsLawful-without_standing c s h =
+    let t = without_standing c s in
+    record {
+      some_cycle = h.some_cycle;
+      cycles = h.cycles;
+      nets = h.nets;
+      cells = h.cells;
+      parts = h.parts;
+      readings = omega (arith, h.readings, length-without_reading c s.readings);
+      names = h.names;
+      distinct = h.distinct;
+      widths = h.widths;
+      each_part = All-weaker (IsLawfulComponent s) (IsLawfulComponent t) (component_same s t refl refl refl) s.parts h.each_part;
+      each_reading = All-without_reading (IsFactOf t) c s.readings (All-weaker (IsFactOf s) (IsFactOf t) (fact_same s t refl refl refl) s.readings h.each_reading);
+      rising = IsRising-without_reading c s.readings h.rising;
+      modes = h.modes;
+      blocks = h.blocks;
+      block_names = h.block_names;
+      each_block = h.each_block;
+      each_mode = All-weaker (IsLawfulMode s) (IsLawfulMode t) (mode_same s t refl refl) s.modes h.each_mode;
+    }

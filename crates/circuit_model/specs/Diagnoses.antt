@@ -9,9 +9,10 @@ use Rattle.environment_sets.specs.Sets.{Set, IsMinimal, IsBelow, others, IsMinim
 use Rattle.environment_sets.specs.Lists.{IsIn}
 use Rattle.circuit_model.specs.Stock.{Stock, IsRefutedBy}
 
--- the components' parts in order, and the measured word of each measured cell
+-- the components' parts and costs in order, and the measured word of each measured cell
 pub record Circuit : Type 0 where
   pub parts : List (List Instance)
+  pub costs : List ℕ
   pub reading_at : Cell → Option ℕ
 
 -- the names of a circuit's assumptions: positions of components, and measured cells

@@ -1,15 +1,34 @@
 -- The kinds of components, and the instances that a component stands for.
-use Rattle.std.specs.Prelude.{◌≡◌, slice_get, ℕ, zero, suc, ◌+◌, ◌-◌, ◌^◌, ◌==◌, Bool, true, ◌&&◌, nat_lt, List, [], ◌∷◌, map, slice_index}
+use Rattle.std.specs.Prelude.{◌≡◌, ◌≢◌, slice_get, ℕ, zero, suc, ◌+◌, ◌-◌, ◌^◌, ◌==◌, Bool, true, false, ◌&&◌, nat_lt, IsTrue, Option, Some, None, List, [], ◌∷◌, map, slice_index}
 use Rattle.circuit_model.specs.declared.model.Cell.{Cell}
 use Rattle.circuit_model.specs.declared.model.Primitive.{Primitive}
 use Rattle.circuit_model.specs.declared.model.Primitive.TheVariants as prim
 use Rattle.circuit_model.specs.declared.model.Kind.{Kind}
-use Rattle.circuit_model.specs.declared.model.Kind.TheVariants.{Buf, Not, And, Or, Xor, Nand, Nor, Xnor, Add, Mul, Const, Reg}
+use Rattle.circuit_model.specs.declared.model.Kind.TheVariants.{Buf, Not, And, Or, Xor, Nand, Nor, Xnor, Add, Mul, Const, Reg, Block}
+use Rattle.circuit_model.specs.declared.rules.Class.{Class}
+use Rattle.circuit_model.specs.declared.rules.Class.TheVariants.{OneInput, TwoInputs, Alone}
 use Rattle.circuit_model.specs.declared.model.Instance.{Instance}
 use Rattle.circuit_model.specs.Inference.{ports_of}
 use Rattle.circuit_model.specs.Lawful.{WidthRule, AllTheSame, LastTheSum, RoomFor, width_rule}
 
+-- the definition that a component of the kind is a block of, if it is a block
+abbrev pub block_in : Kind → Option ℕ
+block_in Buf = None
+block_in Not = None
+block_in And = None
+block_in Or = None
+block_in Xor = None
+block_in Nand = None
+block_in Nor = None
+block_in Xnor = None
+block_in Add = None
+block_in Mul = None
+block_in (Const value) = None
+block_in (Reg reset) = None
+block_in (Block block) = Some block
+
 -- The relation that the words at the kind's ports have at each cycle; for a register, the one that carries its word on.
+-- (A block has none of its own. It is taken as a constant: one place, the net of its first pin, and no rule for widths.)
 abbrev pub primitive_of : Kind → Primitive
 primitive_of Buf = prim.Buf
 primitive_of Not = prim.Not
@@ -23,6 +42,7 @@ primitive_of Add = prim.Add
 primitive_of Mul = prim.Mul
 primitive_of (Const value) = prim.Const value
 primitive_of (Reg reset) = prim.Buf
+primitive_of (Block block) = prim.Const 0
 
 -- three widths are the same
 abbrev pub are_equal : List ℕ → Bool
@@ -66,6 +86,7 @@ fits_value Add widths = true
 fits_value Mul widths = true
 fits_value (Const value) widths = nat_lt value (2 ^ slice_index widths 0)
 fits_value (Reg reset) widths = nat_lt reset (2 ^ slice_index widths 1)
+fits_value (Block block) widths = true
 
 -- the cell of a net at a cycle
 abbrev pub cell_at : ℕ → ℕ → Cell
@@ -103,7 +124,8 @@ register reset nets widths (suc n) = reset_instance reset nets widths ∷ each_c
 abbrev pub at_each_cycle : Kind → (nets widths : List ℕ) → ℕ → List Instance
 at_each_cycle kind nets widths cycles = each_cycle (instance_at (primitive_of kind) nets widths) 0 cycles
 
--- The instances that a component of the kind stands for, at nets of these widths, over so many cycles.
+-- The instances that a component of the kind stands for, at nets of these widths, over so many cycles. (Those of a block
+-- come from its definition.)
 abbrev pub instances : Kind → (nets widths : List ℕ) → ℕ → List Instance
 instances Buf nets widths cycles = at_each_cycle Buf nets widths cycles
 instances Not nets widths cycles = at_each_cycle Not nets widths cycles
@@ -117,3 +139,36 @@ instances Add nets widths cycles = at_each_cycle Add nets widths cycles
 instances Mul nets widths cycles = at_each_cycle Mul nets widths cycles
 instances (Const value) nets widths cycles = at_each_cycle (Const value) nets widths cycles
 instances (Reg reset) nets widths cycles = register reset nets widths cycles
+instances (Block block) nets widths cycles = []
+
+-- the class of a kind: those with one input and as wide a result, those with two, and the kinds that stand alone
+abbrev pub class_of : Kind → Class
+class_of Buf = OneInput
+class_of Not = OneInput
+class_of And = TwoInputs
+class_of Or = TwoInputs
+class_of Xor = TwoInputs
+class_of Nand = TwoInputs
+class_of Nor = TwoInputs
+class_of Xnor = TwoInputs
+class_of Add = TwoInputs
+class_of Mul = Alone
+class_of (Const value) = Alone
+class_of (Reg reset) = Alone
+class_of (Block block) = Alone
+
+-- the two are one class, and not kinds that stand alone
+abbrev pub are_one_class : Class → Class → Bool
+are_one_class OneInput OneInput = true
+are_one_class OneInput TwoInputs = false
+are_one_class OneInput Alone = false
+are_one_class TwoInputs OneInput = false
+are_one_class TwoInputs TwoInputs = true
+are_one_class TwoInputs Alone = false
+are_one_class Alone OneInput = false
+are_one_class Alone TwoInputs = false
+are_one_class Alone Alone = false
+
+-- a component of the one kind may act as the other: another kind of its class
+abbrev pub MayAct : Kind → Kind → Type 0
+MayAct own kind = IsTrue (are_one_class (class_of own) (class_of kind)) × (own ≢ kind)

@@ -6,6 +6,7 @@ pub mod Laws
 pub mod Diagnoses
 pub mod Names
 pub mod Kinds
+pub mod Blocks
 pub mod Present
 pub mod Padding
 pub mod Whole
@@ -18,3 +19,7 @@ pub mod Probe
 pub mod Derivation
 pub mod Splitting
 pub mod Printed
+pub mod Opening
+pub mod Rows
+pub mod Places
+pub mod Chosen

@@ -1,15 +1,15 @@
 // The instances that a component stands for.
 
-ghost use Rattle.std.specs.Prelude.{◌≡◌, ◌≤◌, map, IfOk, IsTrue};
+ghost use Rattle.std.specs.Prelude.{◌≡◌, ◌≤◌, map, IfOk, IsTrue, None};
 ghost use Rattle.circuit_model.specs.Inference.{ports_of};
-ghost use Rattle.circuit_model.specs.Kinds.{primitive_of, are_widths, fits_value, instance_at, each_cycle, reset_instance, carry_instance, register, instances};
+ghost use Rattle.circuit_model.specs.Kinds.{primitive_of, are_widths, fits_value, instance_at, each_cycle, reset_instance, carry_instance, register, instances, block_in};
 ghost use Rattle.circuit_model.specs.declared.limits.TheConstants.{MOST_CYCLES};
 
 use crate::model::{Cell, Instance, Kind, Part, Primitive};
 use std::alloc::{AllocError, Global};
 use word_domain::Width;
 
-/// The instances that a component of the kind stands for over so many cycles, at these nets of these widths, both in the
+/// The instances that a component of the kind, which is no block, stands for over so many cycles, at these nets of these widths, both in the
 /// order of the kind's ports. Unused places of `nets` and of `widths` repeat the last port's. Where memory is wanting it
 /// leaves nothing behind.
 pub fn instances_of(
@@ -19,6 +19,7 @@ pub fn instances_of(
     widths: [Width; 3],
     cycles: u8,
 ) -> Result<Part, AllocError>
+    requires plain { block_in kind ≡ None }
     requires widths { IsTrue (are_widths kind widths) }
     requires value { IsTrue (fits_value kind widths) }
     requires some_cycle { 1 ≤ cycles }
@@ -36,7 +37,8 @@ fn all_instances(
     widths: [Width; 3],
     cycles: u8,
 ) -> Result<Vec<Instance>, AllocError>
-    requires { 1 ≤ cycles }
+    requires plain { block_in kind ≡ None }
+    requires some_cycle { 1 ≤ cycles }
     ensures { IfOk result (λ v. v.items ≡ instances kind nets widths cycles) }
 {
     match kind {
@@ -52,6 +54,7 @@ fn all_instances(
         | Kind::Add
         | Kind::Mul
         | Kind::Const { .. } => each_cycle(alloc, kind.primitive(), nets, widths, cycles),
+        Kind::Block { .. } => unreachable!(),
     }
 }
 
@@ -138,7 +141,7 @@ fn carry_instance(nets: [u16; 3], widths: [Width; 3], cycle: u8) -> Instance
 }
 
 impl Kind {
-    // The relation at each cycle; a register's carries its word on.
+    // The relation at each cycle; a register's carries its word on, and a block has none of its own.
     fn primitive(self) -> Primitive
         ensures { result ≡ primitive_of self }
     {
@@ -155,6 +158,7 @@ impl Kind {
             Kind::Mul => Primitive::Mul,
             Kind::Const { value } => Primitive::Const { value },
             Kind::Reg { .. } => Primitive::Buf,
+            Kind::Block { .. } => Primitive::Const { value: 0 },
         }
     }
 }

@@ -6,6 +6,7 @@ ghost use Rattle.circuit_model.specs.Diagnoses.{DiagnosesAreHittingSets, SomeDia
 ghost use Rattle.circuit_model.specs.Laws.{ClosuresGrow, SubsetsAreConsistent, ClosuresAreClosed, LabelsOfAPart, NogoodsOfAPart, OneMoreForLabels, OneMoreForNogoods, ListedLabelsCover};
 ghost use Rattle.circuit_model.specs.Load.{LoadsGrow};
 ghost use Rattle.circuit_model.specs.Printed.{PrintedLabelsAreUnique};
+ghost use Rattle.circuit_model.specs.Probe.{DiagnosesHaveOneListing, ConflictsHaveOneListing, CellsHaveOneScore};
 ghost use Rattle.circuit_model.specs.Renaming.{RenamedClosures, RenamedClashes, RenamedLabels, RenamedNogoods};
 ghost use Rattle.circuit_model.specs.Splitting.{TwoWordsSplit, TwoPredictionsSplit};
 
@@ -127,12 +128,28 @@ pub fn no_circuit_lacks_a_diagnosis()
     ensures { NoCircuitLacksADiagnosis }
 {}
 
-/// The score of some predictions is below the square of their number exactly where two of them are different words.
+/// The diagnoses of a circuit have one listing by cost.
+pub fn diagnoses_have_one_listing()
+    ensures { DiagnosesHaveOneListing }
+{}
+
+/// The conflicts of a circuit have one listing in order.
+pub fn conflicts_have_one_listing()
+    ensures { ConflictsHaveOneListing }
+{}
+
+/// A cell has one score.
+pub fn cells_have_one_score()
+    ensures { CellsHaveOneScore }
+{}
+
+/// The score of some predictions, each of some weight, is below the square of their weight exactly where two of them
+/// are different words.
 pub fn two_words_split()
     ensures { TwoWordsSplit }
 {}
 
-/// A cell splits, which is that its score is below the square of the number of diagnoses, exactly where two diagnoses
+/// A cell splits, which is that its score is below the squared weight of all diagnoses, exactly where two diagnoses
 /// predict different words there.
 pub fn two_predictions_split()
     ensures { TwoPredictionsSplit }

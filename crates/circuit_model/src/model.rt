@@ -1,6 +1,6 @@
 // Words, cells, facts and assumptions.
 
-ghost use Rattle.std.specs.Prelude.{◌≡◌, ◌<◌, length, slice_get, Some, IfOk};
+ghost use Rattle.std.specs.Prelude.{◌≡◌, ◌<◌, ◌++◌, [], length, slice_get, Some, IfOk, OnOk, OnErr};
 ghost use Rattle.circuit_model.specs.Lawful.{IsLawfulInstance, AreLawful};
 
 use std::alloc::{AllocError, Global};
@@ -53,7 +53,7 @@ pub enum Primitive {
 }
 
 /// A kind of component. `Const` has the value that it gives, and `Reg` the one that it holds at cycle 0; either is below
-/// two to the width of the component's last port.
+/// two to the width of the component's last port. `Block` names a definition by its place in order of declaration.
 #[derive(Clone, Copy, PartialEq, Eq, Debug)]
 pub enum Kind {
     Buf,
@@ -68,6 +68,15 @@ pub enum Kind {
     Mul,
     Const { value: u64 },
     Reg { reset: u64 },
+    Block { block: u16 },
+}
+
+/// How a component may fail: its last port has this word at each cycle, or it has the relation of another kind of its
+/// class. The word is below two to the width of that port.
+#[derive(Clone, Copy, PartialEq, Eq, Debug)]
+pub enum Mode {
+    Stuck { value: u64 },
+    Acts { kind: Kind },
 }
 
 /// A relation between the words at some cells, in the order of the relation's ports. There are 1 to 3 ports; unused
@@ -80,7 +89,8 @@ pub struct Instance {
     pub widths: [Width; 3],
 }
 
-/// The relations that a component stands for, in order of cycles, one for each cycle. Contracts see it as their list.
+/// The relations that a component stands for: one for each cycle, in order of cycles, and so for each inner component of
+/// a block, in order. Contracts see it as their list.
 /// Each one is lawful: `ports` is the number of ports of its relation, its widths go together, and the value of a
 /// constant fits.
 #[derive(Drop)]
@@ -110,7 +120,25 @@ impl Part {
         Part { instances }
     }
 
-    /// The number of instances, as many as there are cycles.
+    /// A part without instances. It takes no memory.
+    pub fn new(alloc: Global) -> Part
+        ensures { result ≡ [] }
+    {
+        Part {
+            instances: Vec::new(alloc),
+        }
+    }
+
+    /// Puts the other part's instances at the end. A refusal changes nothing.
+    pub fn append(&mut self, other: &Part) -> Result<(), AllocError>
+        ensures ok { OnOk result (self.new ≡ self.old ++ other.now) }
+        ensures err { OnErr result (self.new ≡ self.old) }
+    {
+        self.instances.extend_from_slice(&other.instances)?;
+        Ok(())
+    }
+
+    /// The number of instances.
     pub fn len(&self) -> usize
         ensures { result ≡ length self.now }
     {
@@ -125,7 +153,7 @@ impl Part {
         Ok(Part { instances })
     }
 
-    /// An instance by its place, which is its cycle, with what each instance of a part keeps.
+    /// An instance by its place, which is its cycle where the component is no block, with what each instance of a part keeps.
     pub fn at(&self, place: usize) -> &Instance
         requires { place < length self.now }
         ensures instance { slice_get self.now place ≡ Some result.now }

@@ -1,16 +1,19 @@
 // The circuit and its standing measurements.
 
-ghost use Rattle.std.specs.Prelude.{◌≡◌, ◌≤◌, ◌<◌, ◌+◌, ◌*◌, length, slice_get, Some, None, IfOk, OnOk, OnErr, IsTrue};
-ghost use Rattle.std.specs.List.{insert, position};
+ghost use Rattle.std.specs.Prelude.{◌≡◌, ◌≤◌, ◌<◌, ◌+◌, ◌-◌, ◌*◌, length, slice_get, remove, Some, None, IfOk, OnOk, OnErr, IsSome, IsTrue, is_some, false};
+ghost use Rattle.std.specs.List.{insert, list_any, position};
 ghost use Rattle.std.specs.Str.{bytes_eq};
 ghost use Rattle.circuit_model.specs.Names.{is_name};
-ghost use Rattle.circuit_model.specs.Present.{empty_present, named_in, reading_in, with_reading, with_cycles, with_net, with_part, without_last_part, with_standing, IsLawful, IsLawfulComponent, IsFactOf};
-ghost use Rattle.circuit_model.specs.declared.limits.TheConstants.{MOST_CYCLES, MOST_NETS, MOST_CELLS, MOST_PARTS, MOST_READINGS};
+ghost use Rattle.circuit_model.specs.Present.{empty_present, named_in, reading_in, with_reading, with_cycles, with_net, without_last_net, with_part, without_last_part, without_part, with_cost, with_standing, without_reading, without_standing, with_mode, without_last_mode, block_named, block_at, with_block, without_last_block, with_pin, without_last_pin, with_inner, without_last_inner, IsLawful, IsLawfulComponent, IsLawfulMode, IsFactOf, IsUnusedNet, IsUnusedPart, IsUnusedBlock, IsUnusedPin, is_block_of, is_block_in_use};
+ghost use Rattle.circuit_model.specs.Blocks.{pin_named, inner_named, IsLawfulInner};
+ghost use Rattle.circuit_model.specs.declared.limits.TheConstants.{MOST_CYCLES, MOST_NETS, MOST_CELLS, MOST_PARTS, MOST_READINGS, MOST_MODES, MOST_BLOCKS, MOST_PINS, MOST_INNERS, LEAST_COST, MOST_COST};
 ghost use Rattle.word_domain.specs.declared.width.TheConstants.{WIDEST};
 
+use crate::blocks::{Block, Inner};
 use crate::limits;
-use crate::model::{Cell, Fact, Kind, Part};
+use crate::model::{Cell, Fact, Kind, Mode, Part};
 use crate::name::Name;
+use crate::pins::Pins;
 use std::alloc::{AllocError, Global};
 use std::marker::Model;
 use word_domain::Width;
@@ -29,8 +32,22 @@ pub struct Component {
     pub kind: Kind,
     /// The nets of its ports, in order of ports. Unused places repeat the last one.
     pub nets: [u16; 3],
+    /// Its cost, from [`limits::LEAST_COST`] to [`limits::MOST_COST`].
+    pub cost: u8,
+    /// Of a block, the net of each pin of its definition, in order; the three places of `nets` then have the first of them.
+    /// Of any other component, none.
+    pub pins: Pins,
     /// The instances that it stands for.
     pub part: Part,
+}
+
+/// A mode as it is declared: the name of its component, and its cost, from [`limits::LEAST_COST`] to
+/// [`limits::MOST_COST`].
+#[derive(Clone, Copy, PartialEq, Eq, Debug)]
+pub struct DeclaredMode {
+    pub name: Name,
+    pub mode: Mode,
+    pub cost: u8,
 }
 
 /// What a name stands for, by its place among the nets or among the components.
@@ -40,9 +57,10 @@ pub enum Named {
     Part(u16),
 }
 
-/// The circuit and its standing measurements: the number of cycles, the nets and the components in order of
-/// declaration, and at most one word at each cell. It is lawful at every moment: names are distinct, limits are kept,
-/// each component stands for the instances by its kind's rule, and each measured word fits its net.
+/// The circuit and its standing measurements: the number of cycles, the nets, the definitions of blocks, the components
+/// and the modes in order of declaration, and at most one word at each cell. It is lawful at every moment: names are
+/// distinct, limits are kept, each component stands for the instances by its kind's rule or its definition, each mode is
+/// one that its component may have, and each measured word fits its net.
 #[derive(Drop)]
 pub struct Present {
     cycles: u8,
@@ -50,6 +68,8 @@ pub struct Present {
     parts: Vec<Component>,
     // in order of cells, with room for all
     readings: Vec<Fact>,
+    modes: Vec<DeclaredMode>,
+    blocks: Vec<Block>,
 }
 
 impl Model for Present {
@@ -65,7 +85,7 @@ impl Model for Present {
 }
 
 impl Present {
-    /// One cycle, no nets, no components and no measurements. The room for all measurements is taken here; where memory is
+    /// One cycle, and nothing else. The room for all measurements is taken here; where memory is
     /// wanting, nothing is left behind.
     pub fn open(alloc: Global) -> Result<Present, AllocError>
         ensures { IfOk result (λ p. p ≡ empty_present) }
@@ -75,6 +95,28 @@ impl Present {
             nets: Vec::new(alloc),
             parts: Vec::new(alloc),
             readings: Vec::with_capacity(alloc, limits::MOST_READINGS as usize)?,
+            modes: Vec::new(alloc),
+            blocks: Vec::new(alloc),
+        })
+    }
+
+    /// A present that is the same, with its own room for all measurements. Where memory is wanting it leaves nothing behind.
+    pub fn copy(&self, alloc: Global) -> Result<Present, AllocError>
+        ensures { IfOk result (λ p. p ≡ self.now) }
+    {
+        let mut readings = Vec::with_capacity(alloc, limits::MOST_READINGS as usize)?;
+        readings.extend_from_slice(&self.readings)?;
+        let nets = Vec::from_slice(alloc, &self.nets)?;
+        let parts = copy_parts(alloc, &self.parts)?;
+        let modes = Vec::from_slice(alloc, &self.modes)?;
+        let blocks = copy_blocks(alloc, &self.blocks)?;
+        Ok(Present {
+            cycles: self.cycles,
+            nets,
+            parts,
+            readings,
+            modes,
+            blocks,
         })
     }
 
@@ -152,6 +194,110 @@ impl Present {
         self.readings[place as usize]
     }
 
+    /// The number of modes, at most [`limits::MOST_MODES`].
+    pub fn modes(&self) -> u16
+        ensures value { result ≡ length self.now.modes }
+        ensures lawful { IsLawful self.now }
+    {
+        self.modes.len() as u16
+    }
+
+    /// The name of a mode's component, the mode and its cost, by its place in order of declaration, counted from 0.
+    pub fn mode_at(&self, place: u16) -> (Name, Mode, u8)
+        requires { place < length self.now.modes }
+        ensures { slice_get self.now.modes place ≡ Some (record { name = result.0; mode = result.1; cost = result.2 }) }
+    {
+        let declared = self.modes[place as usize];
+        (declared.name, declared.mode, declared.cost)
+    }
+
+    /// The place of the definition with the name, if there is one. Definitions have a set of names of their own.
+    pub fn find_block(&self, name: &Name) -> Option<u16>
+        ensures { result ≡ block_named self.now name.now }
+    {
+        block_named(&self.blocks, name)
+    }
+
+    /// The number of definitions, at most [`limits::MOST_BLOCKS`].
+    pub fn blocks(&self) -> u16
+        ensures value { result ≡ length self.now.blocks }
+        ensures lawful { IsLawful self.now }
+    {
+        self.blocks.len() as u16
+    }
+
+    /// The name of a definition, by its place in order of declaration, counted from 0.
+    pub fn block_name(&self, block: u16) -> Name
+        requires { block < length self.now.blocks }
+        ensures { result ≡ (block_at self.now block).name }
+    {
+        *self.blocks[block as usize].name()
+    }
+
+    /// The number of pins of a definition, at most [`limits::MOST_PINS`].
+    pub fn pins_of(&self, block: u16) -> u16
+        requires { block < length self.now.blocks }
+        ensures value { result ≡ length (block_at self.now block).pins }
+        ensures most { result ≤ MOST_PINS }
+    {
+        self.blocks[block as usize].pins().len() as u16
+    }
+
+    /// The name and the width of a pin of a definition, by its place in order of declaration, counted from 0.
+    pub fn pin_at(&self, block: u16, place: u16) -> (Name, Width)
+        requires block { block < length self.now.blocks }
+        requires place { place < length (block_at self.now block).pins }
+        ensures { slice_get (block_at self.now block).pins place ≡ Some (record { name = result.0; width = result.1 }) }
+    {
+        let pin = self.blocks[block as usize].pins()[place as usize];
+        (pin.name, pin.width)
+    }
+
+    /// The place of the pin of a definition with the name, if there is one.
+    pub fn find_pin(&self, block: u16, name: &Name) -> Option<u16>
+        requires { block < length self.now.blocks }
+        ensures { result ≡ pin_named (block_at self.now block) name.now }
+    {
+        net_named(self.blocks[block as usize].pins(), name)
+    }
+
+    /// Whether an inner component of a definition has the name.
+    pub fn has_inner(&self, block: u16, name: &Name) -> bool
+        requires { block < length self.now.blocks }
+        ensures { result ≡ is_some (inner_named (block_at self.now block) name.now) }
+    {
+        inner_position(self.blocks[block as usize].inners(), name).is_some()
+    }
+
+    /// Whether a component is a block of a definition.
+    pub fn is_in_use(&self, block: u16) -> bool
+        ensures used { result ≡ is_block_in_use self.now block }
+        ensures unused { result ≡ false → IsUnusedBlock self.now block }
+    {
+        has_block(&self.parts, block)
+    }
+
+    /// The number of inner components of a definition, at most [`limits::MOST_INNERS`].
+    pub fn inners_of(&self, block: u16) -> u16
+        requires { block < length self.now.blocks }
+        ensures value { result ≡ length (block_at self.now block).inners }
+        ensures most { result ≤ MOST_INNERS }
+    {
+        self.blocks[block as usize].inners().len() as u16
+    }
+
+    /// The name, the kind and the pins by their places of an inner component of a definition, by its place in order of
+    /// declaration, counted from 0. Unused places of the pins repeat the last one.
+    pub fn inner_at(&self, block: u16, place: u16) -> (Name, Kind, [u16; 3])
+        requires block { block < length self.now.blocks }
+        requires place { place < length (block_at self.now block).inners }
+        ensures inner { slice_get (block_at self.now block).inners place ≡ Some (record { name = result.0; kind = result.1; pins = result.2 }) }
+    {
+        let inner = self.blocks[block as usize].inners()[place as usize];
+        let pins = inner.pins;
+        (inner.name, inner.kind, pins)
+    }
+
     /// Sets the number of cycles, before the first net is declared. It takes no memory.
     pub fn set_cycles(&mut self, cycles: u8)
         requires empty { length self.old.nets ≡ 0 }
@@ -181,6 +327,7 @@ impl Present {
         requires room { length self.old.parts < MOST_PARTS }
         requires lawful { IsLawfulComponent self.old component }
         ensures ok { OnOk result (self.new ≡ with_part component self.old) }
+        ensures unused { OnOk result (IsUnusedPart self.new (length self.new.parts - 1)) }
         ensures err { OnErr result (self.new ≡ self.old) }
     {
         // For the proof alone: the bytes of a name are one.
@@ -189,12 +336,31 @@ impl Present {
         Ok(())
     }
 
+    /// Takes the last net away. It takes no memory.
+    pub fn drop_net(&mut self)
+        requires some { 0 < length self.old.nets }
+        requires unused { IsUnusedNet self.old (length self.old.nets - 1) }
+        ensures { self.new ≡ without_last_net self.old }
+    {
+        self.nets.truncate(self.nets.len() - 1);
+    }
+
     /// Takes the last component away. It takes no memory.
     pub fn drop_part(&mut self)
-        requires { 0 < length self.old.parts }
+        requires some { 0 < length self.old.parts }
+        requires unused { IsUnusedPart self.old (length self.old.parts - 1) }
         ensures { self.new ≡ without_last_part self.old }
     {
         self.parts.truncate(self.parts.len() - 1);
+    }
+
+    /// Takes a component away, by its place. It takes no memory.
+    pub fn remove_part(&mut self, part: u16)
+        requires there { part < length self.old.parts }
+        requires unused { IsUnusedPart self.old part }
+        ensures { self.new ≡ without_part part self.old }
+    {
+        self.parts.remove(part as usize);
     }
 
     /// Puts a measurement among the standing ones, in order of cells. It takes no memory: the room was taken when the
@@ -211,10 +377,148 @@ impl Present {
             Err(_) => unreachable!(),
         }
     }
+
+    /// Takes the measurement of a cell away. It takes no memory.
+    pub fn clear_reading(&mut self, cell: Cell)
+        requires { IsSome (reading_in self.old.readings cell) }
+        ensures { self.new ≡ without_standing cell self.old }
+    {
+        let place = place_at(&self.readings, cell);
+        self.readings.remove(place);
+    }
+
+    /// Sets the cost of a component, by its place. It takes no memory.
+    pub fn set_cost(&mut self, part: u16, cost: u8)
+        requires part { part < length self.old.parts }
+        requires low { LEAST_COST ≤ cost }
+        requires high { cost ≤ MOST_COST }
+        ensures { self.new ≡ with_cost part cost self.old }
+    {
+        self.parts[part as usize].cost = cost;
+    }
+
+    /// Declares a mode of the component with the name, after the others. A refusal changes nothing.
+    pub fn add_mode(&mut self, name: Name, mode: Mode, cost: u8) -> Result<(), AllocError>
+        requires lawful { IsLawfulMode self.old (record { name = name; mode = mode; cost = cost }) }
+        requires room { length self.old.modes < MOST_MODES }
+        ensures ok { OnOk result (self.new ≡ with_mode (record { name = name; mode = mode; cost = cost }) self.old) }
+        ensures err { OnErr result (self.new ≡ self.old) }
+    {
+        self.modes.push(DeclaredMode { name, mode, cost })?;
+        Ok(())
+    }
+
+    /// Takes the last mode away. It takes no memory.
+    pub fn drop_mode(&mut self)
+        requires { 0 < length self.old.modes }
+        ensures { self.new ≡ without_last_mode self.old }
+    {
+        self.modes.truncate(self.modes.len() - 1);
+    }
+
+    /// Declares a definition without pins and inner components, after the others. A refusal changes nothing.
+    pub fn define(&mut self, name: Name) -> Result<(), AllocError>
+        requires free { block_named self.old name ≡ None }
+        requires room { length self.old.blocks < MOST_BLOCKS }
+        ensures ok { OnOk result (self.new ≡ with_block name self.old) }
+        ensures err { OnErr result (self.new ≡ self.old) }
+    {
+        // For the proof alone: the bytes of a name are one.
+        let _name = name.bytes();
+        let block = Block::new(*self.blocks.allocator(), name);
+        self.blocks.push(block)?;
+        Ok(())
+    }
+
+    /// Takes the last definition away. It takes no memory.
+    pub fn drop_define(&mut self)
+        requires some { 0 < length self.old.blocks }
+        requires unused { IsUnusedBlock self.old (length self.old.blocks - 1) }
+        ensures { self.new ≡ without_last_block self.old }
+    {
+        self.blocks.truncate(self.blocks.len() - 1);
+    }
+
+    /// Declares a pin of a definition, after the others. A refusal changes nothing.
+    pub fn pin(&mut self, block: u16, name: Name, width: Width) -> Result<(), AllocError>
+        requires there { block < length self.old.blocks }
+        requires unused { IsUnusedBlock self.old block }
+        requires no_pin { pin_named (block_at self.old block) name ≡ None }
+        requires no_inner { inner_named (block_at self.old block) name ≡ None }
+        requires room { length (block_at self.old block).pins < MOST_PINS }
+        ensures ok { OnOk result (self.new ≡ with_pin block (record { name = name; width = width }) self.old) }
+        ensures err { OnErr result (self.new ≡ self.old) }
+    {
+        let pin = Net::new(name, width);
+        self.blocks[block as usize].add_pin(pin)?;
+        Ok(())
+    }
+
+    /// Takes the last pin of a definition away. It takes no memory.
+    pub fn drop_pin(&mut self, block: u16)
+        requires there { block < length self.old.blocks }
+        requires some { 0 < length (block_at self.old block).pins }
+        requires unused { IsUnusedBlock self.old block }
+        requires unused_pin { IsUnusedPin self.old block (length (block_at self.old block).pins - 1) }
+        ensures { self.new ≡ without_last_pin block self.old }
+    {
+        self.blocks[block as usize].drop_pin();
+    }
+
+    /// Declares an inner component of a definition, after the others. `pins` are places of pins; unused ones repeat the last
+    /// one. A refusal changes nothing.
+    pub fn inside(
+        &mut self,
+        block: u16,
+        name: Name,
+        kind: Kind,
+        pins: [u16; 3],
+    ) -> Result<(), AllocError>
+        requires there { block < length self.old.blocks }
+        requires unused { IsUnusedBlock self.old block }
+        requires no_pin { pin_named (block_at self.old block) name ≡ None }
+        requires no_inner { inner_named (block_at self.old block) name ≡ None }
+        requires lawful { IsLawfulInner (block_at self.old block).pins (record { name = name; kind = kind; pins = pins }) }
+        requires room { length (block_at self.old block).inners < MOST_INNERS }
+        ensures ok { OnOk result (self.new ≡ with_inner block (record { name = name; kind = kind; pins = pins }) self.old) }
+        ensures err { OnErr result (self.new ≡ self.old) }
+    {
+        // For the proof alone: the bytes of a name are one.
+        let _name = name.bytes();
+        self.blocks[block as usize].add_inner(Inner { name, kind, pins })?;
+        Ok(())
+    }
+
+    /// Takes the last inner component of a definition away. It takes no memory.
+    pub fn drop_inside(&mut self, block: u16)
+        requires there { block < length self.old.blocks }
+        requires some { 0 < length (block_at self.old block).inners }
+        requires unused { IsUnusedBlock self.old block }
+        ensures { self.new ≡ without_last_inner block self.old }
+    {
+        self.blocks[block as usize].drop_inner();
+    }
+}
+
+impl Component {
+    fn copy(&self, alloc: Global) -> Result<Component, AllocError>
+        ensures { IfOk result (λ c. c ≡ self.now) }
+    {
+        let part = self.part.copy(alloc)?;
+        let nets = self.nets;
+        Ok(Component {
+            name: self.name,
+            kind: self.kind,
+            nets,
+            cost: self.cost,
+            pins: self.pins,
+            part,
+        })
+    }
 }
 
 impl Net {
-    fn new(name: Name, width: Width) -> Net
+    pub(crate) fn new(name: Name, width: Width) -> Net
         ensures net { result ≡ record { name = name; width = width } }
         ensures name { IsTrue (is_name name) }
         ensures low { 1 ≤ width }
@@ -225,6 +529,28 @@ impl Net {
         let _bits = width.bits();
         Net { name, width }
     }
+}
+
+fn copy_parts(alloc: Global, parts: &[Component]) -> Result<Vec<Component>, AllocError>
+    ensures { IfOk result (λ v. v.items ≡ parts.now) }
+{
+    let mut copies = Vec::new(alloc);
+    for part in parts {
+        let copy = part.copy(alloc)?;
+        copies.push(copy)?;
+    }
+    Ok(copies)
+}
+
+fn copy_blocks(alloc: Global, blocks: &[Block]) -> Result<Vec<Block>, AllocError>
+    ensures { IfOk result (λ v. v.items ≡ blocks.now) }
+{
+    let mut copies = Vec::new(alloc);
+    for block in blocks {
+        let copy = block.copy(alloc)?;
+        copies.push(copy)?;
+    }
+    Ok(copies)
 }
 
 // The place of the net with the name.
@@ -255,10 +581,46 @@ fn part_position(parts: &[Component], name: &Name) -> Option<usize>
     parts.iter().position(|part| is_same(&part.name, name))
 }
 
+// The place of the definition with the name.
+fn block_named(blocks: &[Block], name: &Name) -> Option<u16>
+    requires { length blocks.now ≤ MOST_BLOCKS }
+    ensures { result ≡ position (λ b. bytes_eq b.name name.now) blocks.now }
+{
+    block_position(blocks, name).map(|place| place as u16)
+}
+
+fn block_position(blocks: &[Block], name: &Name) -> Option<usize>
+    ensures { result ≡ position (λ b. bytes_eq b.name name.now) blocks.now }
+{
+    blocks.iter().position(|block| is_same(block.name(), name))
+}
+
 fn is_same(one: &Name, other: &Name) -> bool
     ensures { result ≡ bytes_eq one.now other.now }
 {
     one == other
+}
+
+fn inner_position(inners: &[Inner], name: &Name) -> Option<usize>
+    ensures { result ≡ position (λ i. bytes_eq i.name name.now) inners.now }
+{
+    inners.iter().position(|inner| is_same(&inner.name, name))
+}
+
+// Whether a component is a block of the definition.
+fn has_block(parts: &[Component], block: u16) -> bool
+    ensures { result ≡ list_any (is_block_of block) parts.now }
+{
+    parts.iter().any(|part| is_block_of(part, block))
+}
+
+fn is_block_of(part: &Component, block: u16) -> bool
+    ensures { result ≡ is_block_of block part.now }
+{
+    match part.kind.block() {
+        Some(place) => place == block,
+        None => false,
+    }
 }
 
 // The word at the cell.
@@ -284,4 +646,18 @@ fn place_of(readings: &[Fact], fact: Fact) -> usize
         }
     }
     readings.len()
+}
+
+// The place of the measurement of a cell.
+fn place_at(readings: &[Fact], cell: Cell) -> usize
+    requires { IsSome (reading_in readings.now cell) }
+    ensures within { result < length readings.now }
+    ensures place { remove readings.now result ≡ without_reading cell readings.now }
+{
+    for (place, reading) in readings.iter().enumerate() {
+        if reading.cell == cell {
+            return place;
+        }
+    }
+    unreachable!()
 }

@@ -1,6 +1,6 @@
 // The rules that a kind has for the widths of its ports and for its value.
 
-ghost use Rattle.std.specs.Prelude.{◌≡◌};
+ghost use Rattle.std.specs.Prelude.{◌≡◌, ◌≢◌, ◌↔◌, IsTrue};
 ghost use Rattle.circuit_model.specs.Kinds as rules;
 
 use crate::model::Kind;
@@ -25,7 +25,7 @@ pub fn are_widths(kind: Kind, widths: &[Width; 3]) -> bool
     ensures { result ≡ rules.are_widths kind widths.now }
 {
     match kind {
-        Kind::Const { .. } => true,
+        Kind::Const { .. } | Kind::Block { .. } => true,
         Kind::Mul => is_last_the_sum(widths),
         Kind::Buf
         | Kind::Not
@@ -56,6 +56,76 @@ pub fn fits_value(kind: Kind, widths: &[Width; 3]) -> bool
         | Kind::Nor
         | Kind::Xnor
         | Kind::Add
-        | Kind::Mul => true,
+        | Kind::Mul
+        | Kind::Block { .. } => true,
     }
+}
+
+/// The kinds that may act for each other.
+#[derive(Clone, Copy, PartialEq, Eq, Debug)]
+pub enum Class {
+    OneInput,
+    TwoInputs,
+    Alone,
+}
+
+impl Class {
+    // Whether the two are one, and not kinds that stand alone.
+    fn is_one_with(self, other: Class) -> bool
+        ensures { result ≡ rules.are_one_class self other }
+    {
+        match (self, other) {
+            (Class::OneInput, Class::OneInput) | (Class::TwoInputs, Class::TwoInputs) => true,
+            (Class::OneInput, Class::TwoInputs | Class::Alone)
+            | (Class::TwoInputs, Class::OneInput | Class::Alone)
+            | (Class::Alone, _) => false,
+        }
+    }
+}
+
+impl Kind {
+    /// The definition that a component of the kind is a block of, by its place, if it is a block.
+    pub fn block(self) -> Option<u16>
+        ensures { result ≡ rules.block_in self }
+    {
+        match self {
+            Kind::Block { block } => Some(block),
+            Kind::Buf
+            | Kind::Not
+            | Kind::And
+            | Kind::Or
+            | Kind::Xor
+            | Kind::Nand
+            | Kind::Nor
+            | Kind::Xnor
+            | Kind::Add
+            | Kind::Mul
+            | Kind::Const { .. }
+            | Kind::Reg { .. } => None,
+        }
+    }
+
+    fn class(self) -> Class
+        ensures { result ≡ rules.class_of self }
+    {
+        match self {
+            Kind::Buf | Kind::Not => Class::OneInput,
+            Kind::And | Kind::Or | Kind::Xor | Kind::Nand | Kind::Nor | Kind::Xnor | Kind::Add =>
+                Class::TwoInputs,
+            Kind::Mul | Kind::Const { .. } | Kind::Reg { .. } | Kind::Block { .. } => Class::Alone,
+        }
+    }
+
+    fn is_other_than(self, other: Kind) -> bool
+        ensures { IsTrue result ↔ (self ≢ other) }
+    {
+        self != other
+    }
+}
+
+/// Whether a component of the one kind may act as the other: that is another kind of its class.
+pub fn may_act(own: Kind, kind: Kind) -> bool
+    ensures { IsTrue result ↔ rules.MayAct own kind }
+{
+    own.class().is_one_with(kind.class()) && own.is_other_than(kind)
 }

@@ -6,7 +6,7 @@ use Rattle.environment_sets.specs.Lists.{IsIn, IsListing, IsRoster}
 use Rattle.hitting_sets.specs.Own.{HasOwn}
 use Rattle.hitting_sets.specs.Hitting.{IsMinimalFor, AreMinimalFor}
 use Rattle.hitting_sets.proofs.Minimality.{minimal_by_own}
-use Rattle.diagnosis_order.specs.Costs.{ListsEach}
+use Rattle.environment_sets.specs.Costs.{ListsEach}
 
 -- a minimal hitting set has slots of the conflicts alone
 pub lists_minimal : (order : List ℕ) (conflicts es : List Env) → ListsEach order (HasMember conflicts) → AreMinimalFor conflicts es → ListsEach order (HasMember es)

@@ -1,4 +1,3 @@
-pub mod Before
 pub mod Ranking
 pub mod Found
 pub mod Sums

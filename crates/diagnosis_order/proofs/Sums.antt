@@ -9,14 +9,7 @@ use Rattle.environment_sets.specs.Lists.{IsIn}
 use Rattle.environment_sets.specs.Orders.{ListsAll, IsOrder}
 use Rattle.environment_sets.proofs.Listings.{IsIn-push, IsIn-front, IsIn-last}
 use Rattle.environment_sets.proofs.Sizes.{sizes_are_counts}
-use Rattle.diagnosis_order.specs.Costs.{cost_in}
-
--- the cost of what comes from a place on
-pub cost_step : (order costs : List ℕ) (i : ℕ) (E : Set ℕ) → i < length order → length costs ≡ length order → cost_in (drop i order) (drop i costs) E ≡ cond (E (get_or order i 0)) (get_or costs i 0) 0 + cost_in (drop (i + 1) order) (drop (i + 1) costs) E
-cost_step order costs i E low long = ap₂ (λ ks cs. cost_in ks cs E) (drop_more order i 0 low) (drop_more costs i 0 (omega arith))
-
-pub cost_past : (order costs : List ℕ) (i : ℕ) (E : Set ℕ) → length order ≤ i → cost_in (drop i order) (drop i costs) E ≡ 0
-cost_past order costs i E high = ap (λ ks. cost_in ks (drop i costs) E) (drop_all i order high)
+use Rattle.environment_sets.specs.Costs.{cost_in}
 
 -- each name costs at most so much
 cost_most : (most : ℕ) (order costs : List ℕ) (E : Set ℕ) → ((i : ℕ) → get_or costs i 0 ≤ most) → cost_in order costs E ≤ most * count_by E order

@@ -3,7 +3,7 @@ use Rattle.std.specs.Prelude.{◌≡◌, ◌⊎◌, ℕ, List}
 use Rattle.environment_sets.specs.Sets.{Set}
 use Rattle.environment_sets.specs.Lists.{IsIn, IsRising, IsStrict, IsListing}
 use Rattle.environment_sets.specs.Orders.{ListsAll}
-use Rattle.diagnosis_order.specs.Costs.{ComesBeforeByCost}
+use Rattle.environment_sets.specs.Costs.{ComesBeforeByCost}
 
 module _ (N : Type 0) where
   -- no two sets come before each other

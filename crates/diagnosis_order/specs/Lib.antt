@@ -1,5 +1,3 @@
-pub mod Costs
-pub mod Counts
 pub mod Ranks
 pub mod Stops
 pub mod Laws

@@ -7,7 +7,7 @@ use Rattle.environment_sets.specs.Sets.{Set, ◌∩◌}
 use Rattle.environment_sets.specs.Members.{members}
 use Rattle.environment_sets.specs.Orders.{first_of_both, compare_in}
 use Rattle.diagnosis_order.specs.declared.ranks.Ranked.{Ranked}
-use Rattle.diagnosis_order.specs.Costs.{cost_in}
+use Rattle.environment_sets.specs.Costs.{cost_in}
 
 -- the environment with its cost
 abbrev pub ranked_of : List ℕ → List ℕ → Env → Ranked

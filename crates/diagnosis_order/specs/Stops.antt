@@ -5,7 +5,7 @@ use Rattle.environment_sets.specs.declared.environment.Env.{Env}
 use Rattle.hitting_sets.specs.Hitting.{IsMinimalFor}
 use Rattle.diagnosis_order.specs.declared.listing.DiagnosisStop.{DiagnosisStop}
 use Rattle.diagnosis_order.specs.declared.listing.DiagnosisStop.TheVariants.{TooMany, OutOfMemory}
-use Rattle.diagnosis_order.specs.Counts.{AreSoMany}
+use Rattle.environment_sets.specs.Counts.{AreSoMany}
 
 -- the count is that of all minimal hitting sets, and above the limit
 abbrev pub IsStopFor : List Env → DiagnosisStop → Type 0

@@ -6,7 +6,7 @@ ghost use Rattle.environment_sets.specs.Members.{sets, HasMember};
 ghost use Rattle.environment_sets.specs.Lists.{IsListing};
 ghost use Rattle.environment_sets.specs.Orders.{IsOrder};
 ghost use Rattle.hitting_sets.specs.Hitting.{IsMinimalFor};
-ghost use Rattle.diagnosis_order.specs.Costs.{ComesBeforeByCost, ListsEach};
+ghost use Rattle.environment_sets.specs.Costs.{ComesBeforeByCost, ListsEach};
 ghost use Rattle.diagnosis_order.specs.Stops.{IsStopFor, AreFew};
 
 use crate::ranks::in_order;

@@ -5,7 +5,7 @@ ghost use Rattle.environment_sets.specs.declared.environment.TheConstants.{SLOTS
 ghost use Rattle.environment_sets.specs.Members.{members, sets, HasMember};
 ghost use Rattle.environment_sets.specs.Lists.{IsIn, AreDistinct, IsListing};
 ghost use Rattle.environment_sets.specs.Orders.{ListsAll, IsOrder};
-ghost use Rattle.diagnosis_order.specs.Costs.{cost_in, ComesBeforeByCost, ListsEach};
+ghost use Rattle.environment_sets.specs.Costs.{cost_in, ComesBeforeByCost, ListsEach};
 ghost use Rattle.diagnosis_order.specs.Ranks.{ranked_of, compare_ranks, is_before};
 
 use environment_sets::Env;

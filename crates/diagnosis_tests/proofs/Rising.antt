@@ -9,7 +9,7 @@ use Rattle.environment_sets.specs.Orders.{IsOrder}
 use Rattle.environment_sets.proofs.Listings.{IsIn-push, IsIn-front, IsIn-last, IsRising-push}
 use Rattle.environment_sets.proofs.Membership.{IsIn-map}
 use Rattle.environment_sets.proofs.Slots.{slots_are_below}
-use Rattle.diagnosis_order.specs.Costs.{ListsEach}
+use Rattle.environment_sets.specs.Costs.{ListsEach}
 
 -- the numbers below n, rising
 abbrev pub ListsBelow : ℕ → List ℕ → Type 0

@@ -5,8 +5,11 @@ pub mod Families
 pub mod Counting
 pub mod Sizes
 pub mod OrderLaws
+pub mod CostOrder
+pub mod CostSums
 pub mod Hitting
 pub mod Walking
 pub mod Within
 pub mod Left
 pub mod Membership
+pub mod Sorting

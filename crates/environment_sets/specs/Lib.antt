@@ -4,4 +4,6 @@ pub mod Lists
 pub mod Families
 pub mod Orders
 pub mod Walks
+pub mod Costs
+pub mod Counts
 pub mod Laws

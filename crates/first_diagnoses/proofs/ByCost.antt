@@ -8,7 +8,7 @@ use Rattle.environment_sets.specs.declared.environment.TheConstants.{SLOTS}
 use Rattle.environment_sets.specs.Sets.{Set}
 use Rattle.environment_sets.specs.Members.{HasMember}
 use Rattle.environment_sets.specs.Orders.{IsOrder, ListsAll, first_of_both, by_first}
-use Rattle.diagnosis_order.specs.Costs.{cost_in, ComesBeforeByCost, ListsEach}
+use Rattle.environment_sets.specs.Costs.{cost_in, ComesBeforeByCost, ListsEach}
 use Rattle.diagnosis_order.proofs.Sums.{cost_bound}
 use Rattle.first_diagnoses.specs.declared.problem.Problem.{Problem}
 use Rattle.first_diagnoses.specs.declared.problem.TheConstants.{COST_UNIT, MOST_WEIGHT}

@@ -6,8 +6,8 @@ use Rattle.environment_sets.specs.Sets.{Set}
 use Rattle.environment_sets.specs.Members.{members, sets}
 use Rattle.environment_sets.specs.Lists.{IsIn, IsRising, IsStrict}
 use Rattle.environment_sets.proofs.Membership.{IsIn-append, IsIn-left, IsIn-right, IsRising-append}
-use Rattle.diagnosis_order.specs.Costs.{ComesBeforeByCost}
-use Rattle.diagnosis_order.proofs.Before.{cost_order_is_strict}
+use Rattle.environment_sets.specs.Costs.{ComesBeforeByCost}
+use Rattle.environment_sets.proofs.CostOrder.{cost_order_is_strict}
 use Rattle.first_diagnoses.specs.declared.problem.Problem.{Problem}
 use Rattle.first_diagnoses.specs.First.{AreFirst}
 use Rattle.first_diagnoses.specs.Rounds.{ComesFirst, AddsFirst}
@@ -147,7 +147,7 @@ module _ {X : Type 0} (before : X → X → Type 0) (strict : IsStrict before) w
 -- and so are those with a property, where the rising list has exactly these
 pub firsts_are_fronts : FirstsAreFronts
 firsts_are_fronts conflicts order costs k all xs listing first =
-    first_is_front (ComesBeforeByCost order costs) (cost_order_is_strict ℕ order costs) all k xs listing.rising
+    first_is_front (ComesBeforeByCost order costs) (cost_order_is_strict order costs) all k xs listing.rising
     (record {
       rising = first.rising;
       sound = λ E h. (listing.exact E).1 (first.sound E h);

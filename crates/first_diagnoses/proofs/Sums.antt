@@ -4,7 +4,7 @@ use Rattle.std.specs.List.{count_by}
 use Rattle.std.proofs.lemmas.Bool.{false≢true}
 use Rattle.environment_sets.specs.Sets.{Set, no_elements, ◌⊆◌}
 use Rattle.environment_sets.proofs.Counting.{count_by-cons}
-use Rattle.diagnosis_order.specs.Costs.{cost_in}
+use Rattle.environment_sets.specs.Costs.{cost_in}
 
 -- two sets that share no element weigh no more than a set that has them both
 pub cost_join : (order weights : List ℕ) (A B G : Set ℕ) → A ⊆ G → B ⊆ G → ((k : ℕ) → IsTrue (A k) → IsTrue (B k) → ⊥) → cost_in order weights A + cost_in order weights B ≤ cost_in order weights G

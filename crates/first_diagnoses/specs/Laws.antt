@@ -4,7 +4,7 @@ use Rattle.environment_sets.specs.declared.environment.Env.{Env}
 use Rattle.environment_sets.specs.Sets.{Set}
 use Rattle.environment_sets.specs.Lists.{IsListing}
 use Rattle.hitting_sets.specs.Hitting.{IsMinimalFor}
-use Rattle.diagnosis_order.specs.Costs.{ComesBeforeByCost}
+use Rattle.environment_sets.specs.Costs.{ComesBeforeByCost}
 use Rattle.first_diagnoses.specs.First.{AreFirst}
 
 -- the first k minimal hitting sets are the first k of the list of all by cost, or all of it

@@ -4,7 +4,7 @@ use Rattle.environment_sets.specs.declared.environment.TheConstants.{SLOTS}
 use Rattle.environment_sets.specs.Sets.{Set}
 use Rattle.environment_sets.specs.Members.{HasMember}
 use Rattle.environment_sets.specs.Orders.{IsOrder}
-use Rattle.diagnosis_order.specs.Costs.{cost_in, ListsEach}
+use Rattle.environment_sets.specs.Costs.{cost_in, ListsEach}
 use Rattle.first_diagnoses.specs.declared.problem.Problem.{Problem}
 use Rattle.first_diagnoses.specs.declared.problem.TheConstants.{COST_UNIT, MOST_WEIGHT}
 

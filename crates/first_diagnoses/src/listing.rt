@@ -4,7 +4,7 @@ ghost use Rattle.environment_sets.specs.declared.environment.TheConstants.{SLOTS
 ghost use Rattle.environment_sets.specs.Members.{sets, HasMember};
 ghost use Rattle.environment_sets.specs.Orders.{IsOrder};
 ghost use Rattle.hitting_sets.specs.Hitting.{IsMinimalFor};
-ghost use Rattle.diagnosis_order.specs.Costs.{ComesBeforeByCost, ListsEach};
+ghost use Rattle.environment_sets.specs.Costs.{ComesBeforeByCost, ListsEach};
 ghost use Rattle.first_diagnoses.specs.First.{AreFirst};
 ghost use Rattle.first_diagnoses.specs.Weights.{IsProblem};
 ghost use Rattle.first_diagnoses.specs.Rounds.{ComesByWeight};

@@ -10,6 +10,7 @@ use Rattle.circuit_model.specs.Load.{IsLoad}
 use Rattle.circuit_model.specs.Stock.{IsInLabel, IsNogood, within}
 use Rattle.circuit_model.proofs.Settled as settled_is
 use Rattle.environment_sets.specs.declared.environment.Env.{Env}
+use Rattle.environment_sets.specs.Lists.{IsRoster}
 use Rattle.environment_sets.specs.Members.{HasMember}
 use Rattle.environment_sets.specs.Sets.{Set, ◌⊆◌}
 use Rattle.environment_sets.specs.Families.{AreInside}
@@ -101,4 +102,16 @@ module _ (e : Seen) (exact : IsExact e) (M : Set ℕ) where
           exact = λ E. (λ h. let kept : HasMember e.nogoods E × (E ⊆ M) = (g.exact.exact E).0 h in nogood_inside E kept.1 kept.0, λ h. (g.exact.exact E).1 (inside_nogood E h));
         };
         count = omega (arith, p.count, g.count);
+      }
+
+  -- all nogoods that are kept inside the mask are those of its assumptions
+  pub all_nogoods : (es : List Env) → es ≡ e.nogoods → (found : List (Set ℕ)) → IsRoster (λ E. HasMember es E × (E ⊆ M)) found → IsRoster (IsNogood (within M (stock e.slots))) found
+  all_nogoods es same found roster =
+      let kept : IsRoster (λ E. HasMember e.nogoods E × (E ⊆ M)) found = subst (λ (l : List Env). IsRoster (λ E. HasMember l E × (E ⊆ M)) found) same roster in
+      record {
+        distinct = kept.distinct;
+        exact = λ E. (
+          λ h. let at : HasMember e.nogoods E × (E ⊆ M) = (kept.exact E).0 h in nogood_inside E at.1 at.0,
+          λ h. (kept.exact E).1 (inside_nogood E h),
+        );
       }

@@ -11,6 +11,7 @@ pub mod Assuming
 pub mod TakingBack
 pub mod Opened
 pub mod Remembering
+pub mod Forgetting
 pub mod Masks
 pub mod Asked
 pub mod Values

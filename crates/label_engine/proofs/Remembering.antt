@@ -28,7 +28,7 @@ set_here [] k o low = absurd (omega (arith, low))
 set_here (x ∷ xs) zero o low = refl
 set_here (x ∷ xs) (suc k) o low = set_here xs k o (omega (arith, low))
 
-set_elsewhere : (xs : Slots) (k j : ℕ) (o : Option Assumption) → j ≢ k → stock (set xs k o) j ≡ stock xs j
+pub set_elsewhere : (xs : Slots) (k j : ℕ) (o : Option Assumption) → j ≢ k → stock (set xs k o) j ≡ stock xs j
 set_elsewhere [] k j o ne = refl
 set_elsewhere (x ∷ xs) zero zero o ne = absurd (ne refl)
 set_elsewhere (x ∷ xs) zero (suc j) o ne = refl

@@ -36,7 +36,7 @@ label_take : (n : ℕ) (nodes : List Node) (f : Fact) → IsIn (facts_of (take n
 label_take n nodes f h = let P : List Node → Type 0 = λ l. label_in l f ≡ label_in (take n nodes) f in subst P (take-append-drop n nodes) (label_front (take n nodes) (drop n nodes) f h)
 
 -- a fact with an environment was met
-member_met : (nodes : List Node) (f : Fact) (E : Set ℕ) → HasMember (label_in nodes f) E → IsIn (facts_of nodes) f
+pub member_met : (nodes : List Node) (f : Fact) (E : Set ℕ) → HasMember (label_in nodes f) E → IsIn (facts_of nodes) f
 member_met [] f E h = absurd h
 member_met (n ∷ nodes) f E h =
     elim (is_same n.fact f) as (λ b. is_same n.fact f ≡ b → HasMember (envs_of (cond b (Some n) (find (is_at f) nodes))) E → IsIn (facts_of (n ∷ nodes)) f) [

@@ -7,7 +7,7 @@ use Rattle.circuit_model.specs.declared.model.Fact.{Fact}
 use Rattle.circuit_model.specs.Closure.{fact}
 use Rattle.circuit_model.specs.Present.{is_cell}
 use Rattle.environment_sets.specs.Families.{IsCovered}
-use Rattle.circuit_model.proofs.Cells.{cell_itself}
+use Rattle.circuit_model.proofs.SameCells.{cell_itself}
 use Rattle.environment_sets.specs.declared.environment.TheConstants.{SLOTS}
 use Rattle.environment_sets.specs.Lists.{IsIn}
 use Rattle.environment_sets.specs.Members.{members, HasMember}

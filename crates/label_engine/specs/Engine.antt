@@ -45,6 +45,12 @@ pub record Remembers (old : Stock ℕ) (slot : ℕ) (what : Assumption) (new : S
   pub there : new slot ≡ Some what
   pub others : (k : ℕ) → k ≢ slot → new k ≡ old k
 
+-- the slot stood for the assumption and is free now; every other slot stays as it was
+pub record Forgets (old : Stock ℕ) (slot : ℕ) (what : Assumption) (new : Stock ℕ) : Type 0 where
+  pub there : old slot ≡ Some what
+  pub free : new slot ≡ None
+  pub others : (k : ℕ) → k ≢ slot → new k ≡ old k
+
 -- each slot stands for an assumption
 abbrev pub AreAllTaken : Stock ℕ → Type 0
 AreAllTaken S = (k : ℕ) → k < SLOTS → IsSome (S k)

@@ -1,6 +1,7 @@
 -- What holds while labels are brought up to date with one assumption more.
-use Rattle.std.specs.Prelude.{◌≡◌, ◌⊎◌, ℕ, ◌+◌, ◌*◌, ◌^◌, Bool, true, false, ◌||◌, ◌==◌, cond, Option, Some, None, List, [], ◌∷◌, ◌++◌, length, map, filter, ◌≤◌, ◌↔◌}
+use Rattle.std.specs.Prelude.{◌≡◌, ◌⊎◌, ℕ, ◌+◌, ◌*◌, ◌^◌, Bool, true, false, ◌||◌, ◌&&◌, not, IsTrue, ◌==◌, cond, Option, Some, None, List, [], ◌∷◌, ◌++◌, length, map, filter, ◌≤◌, ◌↔◌}
 use Rattle.std.specs.Option.{option_or, is_none}
+use Rattle.std.specs.List.{list_any}
 use Rattle.circuit_model.specs.declared.model.Fact.{Fact}
 use Rattle.circuit_model.specs.declared.model.Assumption.{Assumption}
 use Rattle.circuit_model.specs.Stock.{Stock}
@@ -9,6 +10,7 @@ use Rattle.environment_sets.specs.declared.environment.Env.{Env}
 use Rattle.environment_sets.specs.Sets.{Set, ◌∪◌, no_elements, only}
 use Rattle.environment_sets.specs.Members.{members, HasMember}
 use Rattle.environment_sets.specs.Lists.{IsIn, AreDistinct}
+use Rattle.environment_sets.specs.Families.{Drops}
 use Rattle.propagation.specs.Propagating.{Target, Family, RecordedInference, All, AreRecorded, IsPropagating, AgreeWithout, IsPut}
 use Rattle.propagation.specs.Uncovered.{uncovered}
 use Rattle.label_engine.specs.declared.nodes.Node.{Node}
@@ -20,7 +22,7 @@ use Rattle.inference_search.specs.Inferences.{inference, RecordedIn}
 use Rattle.inference_search.specs.Found.{AreFound}
 use Rattle.label_engine.specs.declared.update.Pending.{Pending}
 use Rattle.label_engine.specs.declared.update.Update.{Update}
-use Rattle.label_engine.specs.Nodes.{is_same, facts_of, label_in, KeptIn, reaches}
+use Rattle.label_engine.specs.Nodes.{is_same, facts_of, label_in, KeptIn, AreSupported, reaches}
 
 -- the two are the same target
 abbrev pub is_same_target : Target → Target → Bool
@@ -205,3 +207,26 @@ pub record IsTakenBack (slots : List (Option Assumption)) (old new : Update) : T
   pub at_rest : IsAtRest (before slots new.slot) new
   pub same : (t : Target) (E : Set ℕ) → KeptIn old.nodes t E ↔ KeptIn new.nodes t E
   pub same_slot : new.slot ≡ old.slot
+
+-- the component at the slot makes it
+abbrev pub is_made_at : ℕ → Option ℕ → Bool
+is_made_at slot None = false
+is_made_at slot (Some k) = k == slot
+
+-- there is no fact, or it has a node
+abbrev pub is_met_or_none : List Node → Option Fact → Bool
+is_met_or_none nodes None = true
+is_met_or_none nodes (Some f) = list_any (λ n. is_same n.fact f) nodes
+
+-- the inference is not made at the slot, and each fact that it goes from has a node
+abbrev pub is_still_met : List Node → ℕ → Inferred → Bool
+is_still_met nodes slot i = not (is_made_at slot i.maker) && (is_met_or_none nodes i.first && is_met_or_none nodes i.second)
+
+-- the environments that have the slot are dropped, then the nodes with none, and then the inferences that the slot made or that
+-- go from a fact without a node
+pub record HasForgotten (slot : ℕ) (old new : Update) : Type 0 where
+  pub labels : AreSupported (λ F. IsTrue (F slot)) old.nodes.list.items new.nodes.list.items
+  pub nogoods : Drops (HasMember old.nodes.nogoods) (HasMember new.nodes.nogoods) (λ F. IsTrue (F slot))
+  pub recorded : new.recorded.items ≡ filter (is_still_met new.nodes.list.items slot) old.recorded.items
+  pub due_same : new.due.items ≡ old.due.items
+  pub agenda_same : new.agenda ≡ old.agenda

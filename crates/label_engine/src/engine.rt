@@ -1,12 +1,15 @@
 // The engine: what is remembered, and its labels and nogoods.
 
-ghost use Rattle.std.specs.Prelude.{◌≡◌, ◌<◌, ◌↔◌, ℕ, None, Some, Err, IfOk, IfSome, IsTrue, OnErr, MatchOption};
+ghost use Rattle.std.specs.Prelude.{◌≡◌, ◌<◌, ◌↔◌, ℕ, None, Some, Err, IfOk, IfSome, IsSome, IsTrue, OnErr, MatchOption};
 ghost use Rattle.environment_sets.specs.declared.environment.TheConstants.{SLOTS};
 ghost use Rattle.environment_sets.specs.Members.{HasMember};
 ghost use Rattle.circuit_model.specs.declared.model.Assumption.TheVariants.{Reading};
+ghost use Rattle.environment_sets.specs.Families.{Drops};
+ghost use Rattle.circuit_model.specs.declared.model.Assumption.{Assumption};
+ghost use Rattle.circuit_model.specs.declared.model.Fact.{Fact};
 ghost use Rattle.circuit_model.specs.Settled.{AreExact};
 ghost use Rattle.assumption_slots.specs.Slots.{stock};
-ghost use Rattle.label_engine.specs.Engine.{label_at, Remembers, AreAllTaken, IsAsBefore};
+ghost use Rattle.label_engine.specs.Engine.{label_at, Remembers, Forgets, AreAllTaken, IsAsBefore};
 
 use crate::nodes::{Nodes, is_same_fact};
 use crate::update::Update;
@@ -113,6 +116,20 @@ impl Engine {
                 Err(Stop::OutOfMemory)
             }
         }
+    }
+
+    /// Forgets what is remembered at the slot. It takes no memory. Facts that no environment supports any more and the
+    /// inferences from them are dropped too; they are found again where the facts are met again.
+    pub fn forget(&mut self, slot: u16)
+        requires below { slot < SLOTS }
+        requires remembered { IsSome (stock self.old.slots slot) }
+        ensures forgets { (what : Assumption) → stock self.old.slots slot ≡ Some what → Forgets (stock self.old.slots) slot what (stock self.new.slots) }
+        ensures labels { (f : Fact) → Drops (label_at self.old f) (label_at self.new f) (λ E. IsTrue (E slot)) }
+        ensures nogoods { Drops (HasMember self.old.nogoods) (HasMember self.new.nogoods) (λ E. IsTrue (E slot)) }
+        ensures exact { AreExact (stock self.new.slots) (label_at self.new) (HasMember self.new.nogoods) }
+    {
+        self.slots.clear(slot);
+        self.update.forget(slot);
     }
 
     /// A slot that stands for a reading of the fact, if one does.

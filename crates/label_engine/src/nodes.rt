@@ -1,12 +1,12 @@
 // What is kept: the facts that were met, each with its label, and the nogoods.
 
-ghost use Rattle.std.specs.Prelude.{◌≡◌, ◌<◌, ◌↔◌, ◌++◌, ◌∷◌, [], IsTrue, IfOk, OnOk, OnErr, MatchOption, Some, None, position, take};
+ghost use Rattle.std.specs.Prelude.{◌≡◌, ◌<◌, ◌↔◌, ◌++◌, ◌∷◌, [], IsTrue, IfOk, OnOk, OnErr, MatchOption, Some, None, position, take, filter};
 ghost use Rattle.std.specs.List.{list_any};
 ghost use Rattle.environment_sets.specs.Sets.{◌⊆◌};
 ghost use Rattle.environment_sets.specs.Members.{members, HasMember};
 ghost use Rattle.environment_sets.specs.Families.{Drops, IsCovered};
 ghost use Rattle.propagation.specs.Propagating.{IsReached, IsPut};
-ghost use Rattle.label_engine.specs.Nodes.{is_same, facts_of, label_in, KeptIn, IsMet, EachDrops};
+ghost use Rattle.label_engine.specs.Nodes.{is_same, facts_of, label_in, KeptIn, IsMet, EachDrops, is_supported, AreSupported};
 
 use circuit_model::Fact;
 use environment_sets::{Env, SLOTS};
@@ -68,6 +68,13 @@ fn drop_slot(nodes: &mut [Node], slot: u16)
         let node = &mut nodes[place];
         node.label.drop_slot(slot);
     }
+}
+
+// Whether the label has an environment.
+fn has_support(node: &Node) -> bool
+    ensures { result ≡ is_supported node.now }
+{
+    !node.label.members().is_empty()
 }
 
 impl Nodes {
@@ -185,5 +192,24 @@ impl Nodes {
         self.list.truncate(met);
         drop_slot(&mut self.list, slot);
         self.nogoods.drop_slot(slot);
+    }
+
+    // Facts that have no environment are met no more.
+    fn drop_unsupported(&mut self)
+        ensures nodes { self.new.list.items ≡ filter is_supported self.old.list.items }
+        ensures nogoods { self.new.nogoods ≡ self.old.nogoods }
+    {
+        self.list.retain(|node| has_support(node));
+    }
+
+    /// The environments that have the slot go, and then the facts that have no environment are met no more.
+    pub fn forget(&mut self, slot: u16)
+        requires { slot < SLOTS }
+        ensures labels { AreSupported (λ F. IsTrue (F slot)) self.old.list.items self.new.list.items }
+        ensures nogoods { Drops (HasMember self.old.nogoods) (HasMember self.new.nogoods) (λ F. IsTrue (F slot)) }
+    {
+        let met = self.list.len();
+        self.take_back(slot, met);
+        self.drop_unsupported();
     }
 }

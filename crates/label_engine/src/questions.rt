@@ -1,10 +1,11 @@
-// What an engine tells, of all assumptions that it remembers or of those of a mask alone. None of it takes memory.
+// What an engine tells, of all assumptions that it remembers or of those of a mask alone. Only what is handed out as a
+// list takes memory.
 
-ghost use Rattle.std.specs.Prelude.{◌≡◌, ◌↔◌, ℕ, ◌<◌, IfSome, IsTrue, Some};
+ghost use Rattle.std.specs.Prelude.{◌≡◌, ◌↔◌, ℕ, ◌<◌, IfOk, IfSome, IsTrue, Some};
 ghost use Rattle.std.specs.Option.{ForSome, option_map, option_copied};
 ghost use Rattle.environment_sets.specs.declared.environment.TheConstants.{SLOTS};
-ghost use Rattle.environment_sets.specs.Members.{members};
-ghost use Rattle.environment_sets.specs.Lists.{AreDistinct};
+ghost use Rattle.environment_sets.specs.Members.{members, sets};
+ghost use Rattle.environment_sets.specs.Lists.{AreDistinct, IsRoster};
 ghost use Rattle.environment_sets.specs.Orders.{ListsAll, IsOrder};
 ghost use Rattle.environment_sets.specs.Walks.{GivesNext, envs_left};
 ghost use Rattle.circuit_model.specs.Stock.{IsEnvironment, IsInLabel, IsNogood, within};
@@ -18,6 +19,7 @@ use crate::nodes::Node;
 use circuit_model::{Cell, Fact};
 use environment_sets::Env;
 use inference_search::is_same_cell;
+use std::alloc::{AllocError, Global};
 
 impl Engine {
     /// The least word above the last one, or above none, that has a label over the assumptions of the mask alone. Calls
@@ -61,6 +63,13 @@ impl Engine {
         ensures falls { IfSome result (λ e. envs_left order.now self.now.nogoods mask.now (Some e) < envs_left order.now self.now.nogoods mask.now (option_copied last.entry)) }
     {
         self.update.nodes.nogoods.next_after(order, mask, last)
+    }
+
+    /// All nogoods of the assumptions of the mask alone, each once, in no order that is told.
+    pub fn nogoods_within(&self, alloc: Global, mask: &Env) -> Result<Vec<Env>, AllocError>
+        ensures { IfOk result (λ found. IsRoster (IsNogood (within (members mask.now) (stock self.now.slots))) (sets found.items)) }
+    {
+        self.update.nodes.nogoods.inside(alloc, mask)
     }
 
     /// The load of the assumptions of the mask alone: the environments of all labels, and the nogoods. Where there are

@@ -10,7 +10,7 @@ ghost use Rattle.circuit_model.specs.declared.model.Assumption.TheVariants.{Part
 ghost use Rattle.propagation.specs.Uncovered.{Fits, TargetFits};
 ghost use Rattle.propagation.specs.Propagating.{IsReached};
 ghost use Rattle.label_engine.specs.Nodes.{facts_of, KeptIn, IsMet, EachDrops};
-ghost use Rattle.label_engine.specs.Update.{is_same_target, goes_from, item_at, some_fact, goes_from_none, due_with, items_with, items_from, other_fact, made_by, HasUnions, HasUnionsWith, HasMet, AreKeptAlike, IsPutThere, Propagates, DueAlso, WaitsAlso, CarriesOn, IsReady, IsUnion, Survives, before, IsAtRest, IsTakenBack};
+ghost use Rattle.label_engine.specs.Update.{is_same_target, goes_from, item_at, some_fact, goes_from_none, due_with, items_with, items_from, other_fact, made_by, HasUnions, HasUnionsWith, HasMet, AreKeptAlike, IsPutThere, Propagates, DueAlso, WaitsAlso, CarriesOn, IsReady, IsUnion, Survives, before, IsAtRest, IsTakenBack, is_made_at, is_met_or_none, is_still_met, HasForgotten};
 ghost use Rattle.assumption_slots.specs.Slots.{stock};
 
 use crate::nodes::{Insertion, Nodes, is_same_fact};
@@ -258,6 +258,42 @@ fn add_unions(due: &mut Vec<Insertion>, nodes: &Nodes, item: &Pending) -> Result
     }
 }
 
+// Whether there is no fact, or it was met.
+fn is_met(nodes: &Nodes, fact: &Option<Fact>) -> bool
+    ensures { result ≡ is_met_or_none nodes.now.list.items fact.now }
+{
+    match fact {
+        None => true,
+        Some(fact) => nodes.is_met(fact),
+    }
+}
+
+// Whether the component at the slot makes it.
+fn is_of(maker: &Option<u16>, slot: u16) -> bool
+    ensures { result ≡ is_made_at slot maker.now }
+{
+    match maker {
+        None => false,
+        Some(made_at) => *made_at == slot,
+    }
+}
+
+// Whether another makes the inference, and all that it goes from was met.
+fn is_kept(inferred: &Inferred, nodes: &Nodes, slot: u16) -> bool
+    ensures { result ≡ is_still_met nodes.now.list.items slot inferred.now }
+{
+    !is_of(&inferred.maker, slot)
+        && is_met(nodes, &inferred.first)
+        && is_met(nodes, &inferred.second)
+}
+
+// Drops the inferences that the slot made, and those that go from a fact that was not met.
+fn drop_stale(recorded: &mut Vec<Inferred>, nodes: &Nodes, slot: u16)
+    ensures { recorded.new.items ≡ filter (is_still_met nodes.now.list.items slot) recorded.old.items }
+{
+    recorded.retain(|inferred| is_kept(inferred, nodes, slot));
+}
+
 impl Update {
     // The fact is met, which it was not: the inferences that use it are recorded.
     fn meet(&mut self, alloc: Global, slots: &Slots, fact: &Fact) -> Result<(), AllocError>
@@ -471,5 +507,15 @@ impl Update {
             self.take_back(met, recorded);
         }
         outcome
+    }
+
+    /// What has the slot goes, and so do the facts that no environment supports any more, the inferences from them and
+    /// those that the slot made.
+    pub fn forget(&mut self, slot: u16)
+        requires { slot < SLOTS }
+        ensures { HasForgotten slot self.old self.new }
+    {
+        self.nodes.forget(slot);
+        drop_stale(&mut self.recorded, &self.nodes, slot);
     }
 }

@@ -1,8 +1,8 @@
 -- The requests of lines repeat the last net of a component at its unused places.
-use Rattle.std.proofs.Common.{ℕ, Bool, true, false, not, if◌then◌else◌, List, Option, Some, None, Result, Ok, Err, IfOk, refl}
+use Rattle.std.proofs.Common.{◌≡◌, ℕ, Bool, true, false, not, if◌then◌else◌, List, Option, Some, None, Result, Ok, Err, IfOk, refl}
 use Rattle.std.specs.List.{list_all}
 use Rattle.std.specs.Option.{option_map_or}
-use Rattle.circuit_model.specs.Kinds.{RepeatsLast}
+use Rattle.circuit_model.specs.Kinds.{RepeatsLast, block_in}
 use Rattle.netlist_text.specs.Changes.{change_of}
 use Rattle.netlist_text.specs.Commands.{command_of, request_of}
 use Rattle.netlist_text.specs.Grammar.{fault_of, reading_of, reading_from, IsPadded, AsksPadded}
@@ -34,6 +34,21 @@ nets_repeat Mul words = tt
 nets_repeat Const words = (refl, refl)
 nets_repeat Reg words = refl
 
+-- the line of a component is that of no block
+is_plain : (word : PartWord) (words : List (List ℕ)) → block_in (kind_of word words) ≡ None
+is_plain Buf words = refl
+is_plain Not words = refl
+is_plain And words = refl
+is_plain Or words = refl
+is_plain Xor words = refl
+is_plain Nand words = refl
+is_plain Nor words = refl
+is_plain Xnor words = refl
+is_plain Add words = refl
+is_plain Mul words = refl
+is_plain Const words = refl
+is_plain Reg words = refl
+
 -- no other change has nets of a component
 change_is_padded : (word : ChangeWord) (words : List (List ℕ)) → IsPadded (change_of word words)
 change_is_padded changes.Cycles words = tt
@@ -49,8 +64,8 @@ change_is_padded changes.Retract words = tt
 change_is_padded changes.Undo words = tt
 
 request_is_padded : (command : Command) (words : List (List ℕ)) → AsksPadded (request_of command words)
-request_is_padded (Part word) words = nets_repeat word words
-request_is_padded (Inside word) words = nets_repeat word _
+request_is_padded (Part word) words = (is_plain word words, nets_repeat word words)
+request_is_padded (Inside word) words = (is_plain word _, nets_repeat word _)
 request_is_padded (Change word) words = change_is_padded word words
 request_is_padded (Query word) words = tt
 

@@ -1,8 +1,8 @@
 -- What a line asks, or the fault that it has.
-use Rattle.std.specs.Prelude.{ℕ, not, List, length, Option, Some, None, Result, Ok, Err, if◌then◌else◌}
+use Rattle.std.specs.Prelude.{◌≡◌, ℕ, not, List, length, Option, Some, None, Result, Ok, Err, if◌then◌else◌}
 use Rattle.std.specs.List.{list_all}
 use Rattle.std.specs.Option.{option_map_or}
-use Rattle.circuit_model.specs.Kinds.{RepeatsLast}
+use Rattle.circuit_model.specs.Kinds.{RepeatsLast, block_in}
 use Rattle.netlist_text.specs.Commands.{command_of, form_of, request_of}
 use Rattle.netlist_text.specs.Places.{has_count, have_names, have_numbers}
 use Rattle.netlist_text.specs.Words.{words_of, are_silent, is_printable}
@@ -38,11 +38,11 @@ reading_of line =
     if are_silent (words_of line) then Ok request.Nothing else
     reading_from (command_of (words_of line)) (words_of line)
 
--- unused places of a component's nets repeat the last one
+-- a component is no block, and unused places of its nets repeat the last one
 abbrev pub IsPadded : Change → Type 0
 IsPadded (change.Cycles count) = Unit {0}
 IsPadded (change.Net name width) = Unit {0}
-IsPadded (change.Add name kind nets) = RepeatsLast kind nets
+IsPadded (change.Add name kind nets) = (block_in kind ≡ None) × RepeatsLast kind nets
 IsPadded (change.Measure net cycle value) = Unit {0}
 IsPadded (change.Retract net cycle) = Unit {0}
 IsPadded change.Undo = Unit {0}
@@ -51,7 +51,7 @@ IsPadded (change.Stuck name value cost) = Unit {0}
 IsPadded (change.Acts name kind cost) = Unit {0}
 IsPadded (change.Define block) = Unit {0}
 IsPadded (change.Pin block name width) = Unit {0}
-IsPadded (change.Inside block name kind nets) = RepeatsLast kind nets
+IsPadded (change.Inside block name kind nets) = (block_in kind ≡ None) × RepeatsLast kind nets
 IsPadded (change.UseBlock block name nets) = Unit {0}
 
 -- and so they do where a request is such a change

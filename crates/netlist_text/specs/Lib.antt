@@ -9,4 +9,11 @@ pub mod Changes
 pub mod Queries
 pub mod Commands
 pub mod Grammar
+pub mod Misfits
+pub mod Lookups
+pub mod Checks
+pub mod Placing
+pub mod Found
+pub mod Show
+pub mod Replay
 pub mod Laws

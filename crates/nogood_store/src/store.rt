@@ -1,7 +1,9 @@
 // Nogoods.
-ghost use Rattle.std.specs.Prelude.{◌≡◌, ◌<◌, ◌↔◌, IsTrue, OnErr, IfSome, Some, Ok, []};
+ghost use Rattle.std.specs.Prelude.{◌≡◌, ◌<◌, ◌↔◌, IsTrue, OnErr, IfOk, IfSome, Some, Ok, []};
 ghost use Rattle.std.specs.Option.{ForSome, option_copied};
-ghost use Rattle.environment_sets.specs.Members.{members, HasMember};
+ghost use Rattle.environment_sets.specs.Lists.{IsRoster};
+ghost use Rattle.environment_sets.specs.Members.{members, sets, HasMember};
+ghost use Rattle.environment_sets.specs.Sets.{◌⊆◌};
 ghost use Rattle.environment_sets.specs.Families.{IsCovered, IsAntichain, Adds, Drops, AreInside};
 ghost use Rattle.environment_sets.specs.Orders.{ListsAll, IsOrder};
 ghost use Rattle.environment_sets.specs.Walks.{GivesNextEnv, envs_left};
@@ -54,6 +56,13 @@ impl Nogoods {
         ensures { AreInside (HasMember self.now) (members mask.now) result }
     {
         self.antichain.count_inside(mask)
+    }
+
+    /// The nogoods that are inside the mask, each once, in no order that is told.
+    pub fn inside(&self, alloc: Global, mask: &Env) -> Result<Vec<Env>, AllocError>
+        ensures { IfOk result (λ found. IsRoster (λ E. HasMember self.now E × (E ⊆ members mask.now)) (sets found.items)) }
+    {
+        self.antichain.inside(alloc, mask)
     }
 
     /// Whether a member is a subset of the environment.

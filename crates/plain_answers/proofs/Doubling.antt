@@ -21,7 +21,7 @@ use Rattle.present_closure.specs.declared.environment.Environment.{Environment}
 use Rattle.present_closure.specs.Members.{members}
 use Rattle.present_closure.specs.Sets.{IsWith, IsEmpty}
 use Rattle.present_closure.proofs.Environments.{is_some-map, is_some-part}
-use Rattle.circuit_model.proofs.Cells.{same_cell, cell_itself}
+use Rattle.circuit_model.proofs.SameCells.{same_cell, cell_itself}
 use Rattle.circuit_model.proofs.Readings.{Measured, measured_at, rising_apart, reading_in-at}
 use Rattle.plain_answers.specs.Subsets.{sets, IsWithin, IsPart, IsPartOrCell, is_same, adding, doubling}
 use Rattle.plain_answers.proofs.KeptLists.{same_roster}

@@ -7,6 +7,3 @@ mod subsets;
 
 pub use answers::{conflicts, diagnoses, label, nogoods};
 pub use subsets::environments;
-
-#[cfg(test)]
-mod tests;

@@ -3,7 +3,7 @@ use Rattle.std.proofs.Common.{◌≡◌, ◌≢◌, inl, inr, ℕ, ◌<◌, [], 
 use Rattle.std.proofs.lemmas.List.{length-set, get_or-set_same, get_or-set_other}
 use Rattle.std.proofs.lemmas.Bool.{cases_eq}
 use Rattle.circuit_model.specs.declared.model.Cell.{Cell}
-use Rattle.circuit_model.proofs.Cells.{cell_by}
+use Rattle.circuit_model.proofs.SameCells.{cell_by}
 
 module _ {X : Type 0} (default : X) where
   abbrev pub row_of : List (List X) → ℕ → List X

@@ -1,20 +1,23 @@
 -- The instances of a present.
-use Rattle.std.proofs.Common.{◌≡◌, ℕ, zero, suc, ◌+◌, ◌-◌, ◌<◌, ◌≤◌, ◌⊎◌, inl, inr, List, [], ◌∷◌, length, map, Some, IsTrue, slice_get, refl, sym, ap, subst, ◌∙◌, below_more, arith}
+use Rattle.std.proofs.Common.{◌≡◌, ℕ, zero, suc, ◌+◌, ◌-◌, ◌<◌, ◌≤◌, ◌⊎◌, inl, inr, List, [], ◌∷◌, length, map, Option, Some, None, IsTrue, slice_get, refl, sym, ap, subst, ◌∙◌, below_more, arith}
 use Rattle.std.specs.List.{All}
 use Rattle.std.specs.Option.{option_map}
 use Rattle.std.proofs.lemmas.Option.{slice_get-map, slice_get_within, get_or_from_slice_get}
 use Rattle.circuit_model.specs.declared.model.Cell.{Cell}
 use Rattle.circuit_model.specs.declared.model.Instance.{Instance}
 use Rattle.circuit_model.specs.declared.model.Kind.{Kind}
-use Rattle.circuit_model.specs.declared.model.Kind.TheVariants.{Reg}
+use Rattle.circuit_model.specs.declared.model.Kind.TheVariants.{Reg, Block}
 use Rattle.circuit_model.specs.declared.model.Assumption.TheVariants.{Part}
 use Rattle.circuit_model.specs.declared.present.Component.{Component}
-use Rattle.circuit_model.specs.Kinds.{cell_at, primitive_of, RepeatsLast, instance_at, each_cycle, reset_instance, carry_instance, register, instances}
+use Rattle.circuit_model.specs.Kinds.{block_in, cell_at, primitive_of, RepeatsLast, instance_at, each_cycle, reset_instance, carry_instance, register, instances}
 use Rattle.circuit_model.specs.Lawful.{IsLawfulInstance}
 use Rattle.environment_sets.specs.Sets.{Set}
 use Rattle.environment_sets.specs.Lists.{IsIn}
 use Rattle.circuit_model.specs.Diagnoses.{Place, AtPart}
-use Rattle.circuit_model.specs.Present.{PresentView, width_of, IsLawful, IsLawfulComponent}
+use Rattle.circuit_model.specs.Present.{PresentView, width_of, HasPins, part_by, IsLawful, IsLawfulComponent}
+use Rattle.circuit_model.specs.Opening.{opened_component}
+use Rattle.circuit_model.specs.declared.blocks.Inner.{Inner}
+use Rattle.circuit_model.proofs.Openings.{instance_of_block}
 use Rattle.present_closure.specs.Closing.{IsInstanceAt}
 
 -- one of so many instances is the one of some cycle
@@ -106,6 +109,7 @@ module _ (s : PresentView) where
 
     kind_cells : (kind : Kind) → 1 ≤ s.cycles → RepeatsLast kind nets → (i : Instance) → IsIn (instances kind nets widths s.cycles) i → AreCells s i.cells i.widths
     kind_cells (Reg reset) some repeats i of_part = let same : b ≡ z = cc in register_cells reset some same i of_part
+    kind_cells (Block block) some repeats i of_part = absurd of_part
     kind_cells kind some repeats i of_part = cycle_cells kind i of_part
 
   -- the cells and the widths of an instance of a component
@@ -116,6 +120,14 @@ module _ (s : PresentView) where
   instance_cells kind (a ∷ []) three within some repeats i of_part = absurd (omega arith)
   instance_cells kind (a ∷ b ∷ []) three within some repeats i of_part = absurd (omega arith)
   instance_cells kind (a ∷ b ∷ z ∷ y ∷ rest) three within some repeats i of_part = absurd (omega arith)
+
+-- the cells and the widths of an instance of a lawful component, a block or not
+part_cells : (s : PresentView) → IsLawful s → (c : Component) → IsLawfulComponent s c → (o : Option ℕ) → HasPins s o c → (i : Instance) → IsIn (part_by s o c) i → AreCells s i.cells i.widths
+part_cells s lawful c h None pins i of_part = instance_cells s c.kind c.nets h.three h.nets lawful.some_cycle h.unused i of_part
+part_cells s lawful c h (Some block) pins i of_part =
+    let r : (inner : Inner) × IsLawfulComponent s (opened_component s c inner) × IsIn (opened_component s c inner).part i = instance_of_block s lawful c block pins i of_part in
+    let free = r.1 in
+    instance_cells s r.0.kind (opened_component s c r.0).nets free.three free.nets lawful.some_cycle free.unused i r.2
 
 -- an instance of a component of the present
 pub instance_at_place : (s : PresentView) (E : Set Place) → IsLawful s → (place : ℕ) → IsTrue (E (AtPart place)) → (c : Component) → slice_get s.parts place ≡ Some c → (instance : Instance) → IsIn c.part instance → IsLawfulInstance instance → IsInstanceAt s E place instance
@@ -140,7 +152,7 @@ instance_at_place s E lawful place chosen c e instance of_part good = record {
   cells : AreCells s instance.cells instance.widths
   cells =
       let P : List Instance → Type 0 = λ part. IsIn part instance in
-      instance_cells s c.kind c.nets component.three component.nets lawful.some_cycle component.unused instance (subst P component.part of_part)
+      part_cells s lawful c component (block_in c.kind) component.pins instance (subst P component.part of_part)
 
 -- what holds of the component there
 pub at_slice_get : (components : List Component) (place : ℕ) (d c : Component) (P : Component → Type 0) → slice_get components place ≡ Some d → slice_get components place ≡ Some c → P d → P c

@@ -10,7 +10,7 @@ use Rattle.circuit_model.specs.Closure.{fact}
 use Rattle.circuit_model.specs.Diagnoses.{Place, AtCell}
 use Rattle.circuit_model.specs.Present.{PresentView, reading_in, IsFactOf, IsLawful}
 use Rattle.circuit_model.specs.Whole.{stock}
-use Rattle.circuit_model.proofs.Cells.{same_or_other}
+use Rattle.circuit_model.proofs.SameCells.{same_or_other}
 use Rattle.circuit_model.proofs.Readings.{Measured, measured_at, IsFactOf-at, reading_in-at}
 use Rattle.present_closure.specs.Closing.{Table, empty_table, word_at, with_word, HasPlace, IsBacked, IsSound, HasReadings}
 use Rattle.present_closure.proofs.Tables.{word_at-same, word_at-other, sound_with, place_in, empty_sound}

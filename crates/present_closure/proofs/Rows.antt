@@ -9,7 +9,7 @@ use Rattle.present_closure.specs.declared.environment.Environment.{Environment}
 use Rattle.present_closure.specs.Members.{IsPartsOf}
 use Rattle.present_closure.specs.Members.{flag_at, members}
 use Rattle.present_closure.specs.Sets.{IsEmpty, IsWith}
-use Rattle.circuit_model.proofs.Cells.{same_or_other}
+use Rattle.circuit_model.proofs.SameCells.{same_or_other}
 
 -- a row of false has nothing set
 pub get_or-all_false : (n k : ℕ) → slice_index_or (replicate n false) k false ≡ false

@@ -10,7 +10,7 @@ use Rattle.circuit_model.specs.Diagnoses.{Place}
 use Rattle.circuit_model.specs.Present.{PresentView}
 use Rattle.circuit_model.specs.declared.limits.TheConstants.{MOST_CYCLES}
 use Rattle.present_closure.specs.Closing.{Table, empty_table, row_at, word_at, with_word, HasPlace, empty_places, IsBacked, IsSound, Grows}
-use Rattle.circuit_model.proofs.Cells.{same_or_other}
+use Rattle.circuit_model.proofs.SameCells.{same_or_other}
 use Rattle.present_closure.proofs.Grids.{value_same, value_other, row_length}
 
 module _ (table : Table) (c : Cell) (v : ℕ) (place : HasPlace table c) where

@@ -5,4 +5,4 @@ mod agenda;
 mod picker;
 
 pub use agenda::Agenda;
-pub use picker::{Oldest, Picker};
+pub use picker::{Newest, Oldest, Picker, Seeded};

@@ -1,8 +1,7 @@
 -- One slot or one cell more.
-use Rattle.std.proofs.Common.{◌≡◌, ℕ, suc, ◌<◌, ◌⊎◌, inl, inr, Bool, true, false, cond, List, [], ◌∷◌, ◌++◌, map, take, drop, Option, Some, None, IsTrue, refl, sym, ap, ap₂, subst, ◌∙◌, arith}
+use Rattle.std.proofs.Common.{◌≡◌, ℕ, suc, ◌<◌, ◌⊎◌, inl, inr, Bool, true, false, cond, List, [], ◌∷◌, ◌++◌, map, take, drop, Option, Some, None, IsTrue, refl, sym, ap, ap₂, subst, ◌∙◌}
 use Rattle.std.specs.List.{insert}
 use Rattle.std.proofs.lemmas.Bool.{cond_both}
-use Rattle.std.proofs.lemmas.Bool.Decides.{nat_tests}
 use Rattle.std.proofs.lemmas.List.{append_assoc, map-append, take-map, drop-map, take-append-drop}
 use Rattle.circuit_model.specs.declared.model.Cell.{Cell}
 use Rattle.circuit_model.specs.declared.model.Fact.{Fact}
@@ -11,7 +10,7 @@ use Rattle.environment_sets.specs.Lists.{IsIn}
 use Rattle.environment_sets.specs.Orders.{IsOrder}
 use Rattle.environment_sets.proofs.Membership.{IsIn-more, IsIn-still, IsIn-there, AreDistinct-more}
 use Rattle.standing_view.specs.Standing.{AreInOrder, place_among}
-use Rattle.circuit_model.proofs.Cells.{same_cell, cell_itself, comes_after, before_trans}
+use Rattle.circuit_model.proofs.SameCells.{same_cell, cell_itself, comes_after, before_trans}
 
 module _ {X : Type 0} where
   -- between the two pieces of the second list

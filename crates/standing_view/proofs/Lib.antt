@@ -4,6 +4,7 @@ pub mod Named
 pub mod Orders
 pub mod Inserted
 pub mod Growing
+pub mod Shrinking
 pub mod Removed
 pub mod Parked
 pub mod Room
@@ -11,3 +12,9 @@ pub mod Masks
 pub mod Kept
 pub mod Asked
 pub mod Shown
+pub mod PartSets
+pub mod Sorted
+pub mod Conflicting
+pub mod Nogoods
+pub mod Least
+pub mod Picked

@@ -16,8 +16,8 @@ use Rattle.circuit_model.specs.Present.{PresentView, is_cell, reading_in}
 use Rattle.circuit_model.specs.Stock.{Stock, IsEnvironment, within}
 use Rattle.circuit_model.specs.Whole.{stock, everything, places_in_order, order_of_present}
 use Rattle.circuit_model.specs.Renaming.{passes, along, IsRenaming}
-use Rattle.circuit_model.proofs.Cells.{same_cell, cell_itself}
-use Rattle.circuit_model.proofs.Renaming.{passes-elim, passes-intro, some_of, is_some_of, renamed_labels, renamed_nogoods}
+use Rattle.circuit_model.proofs.SameCells.{same_cell, cell_itself}
+use Rattle.circuit_model.proofs.Renaming.{passes-elim, passes-intro, is_some_of, renamed_labels, renamed_nogoods}
 use Rattle.circuit_model.proofs.Settled.{same_set}
 use Rattle.environment_sets.specs.Sets.{Set, ◌⊆◌}
 use Rattle.environment_sets.specs.Lists.{IsIn, AreDistinct}
@@ -143,7 +143,7 @@ module _ (S : Stock ℕ) (st : Stands) (P : PresentView) (parked : List Fact) (r
   within_is : (k : ℕ) → IsTrue (mask_of st k) → within (mask_of st) S k ≡ S k
   within_is k h = rw h refl
 
-  within_inside : (k : ℕ) → IsSome (within (mask_of st) S k) → IsTrue (mask_of st k)
+  pub within_inside : (k : ℕ) → IsSome (within (mask_of st) S k) → IsTrue (mask_of st k)
   within_inside k h = first (mask_of st k) (S k) h where
     first : (b : Bool) (o : Option Assumption) → IsSome (cond b o None) → IsTrue b
     first true o h = refl
@@ -158,19 +158,19 @@ module _ (S : Stock ℕ) (st : Stands) (P : PresentView) (parked : List Fact) (r
     same = λ k m e. let h : Beside k m = place_stands st k m e in within_is k (inside_mask k m h) ∙ named_alike k m h;
   }
 
-  inside_environment : (E : Set ℕ) → E ⊆ mask_of st → IsEnvironment (within (mask_of st) S) E
+  pub inside_environment : (E : Set ℕ) → E ⊆ mask_of st → IsEnvironment (within (mask_of st) S) E
   inside_environment E inside k h =
       let in_mask : IsTrue (mask_of st k) = inside k h in
       let P : Option Assumption → Type 0 = IsSome in
       subst P (sym (within_is k in_mask)) (stands_remembered k (among_listed (order_of st) k in_mask))
 
-  places_environment : (E : Set ℕ) → E ⊆ mask_of st → IsEnvironment (stock P) (places st E)
+  pub places_environment : (E : Set ℕ) → E ⊆ mask_of st → IsEnvironment (stock P) (places st E)
   places_environment E inside m h =
       let k : (k : ℕ) × (slot_of st m ≡ Some k) × IsTrue (E k) = passes-elim E (slot_of st m) h in
       let P : Option Assumption → Type 0 = IsSome in
       subst P (named_alike k.0 m (slot_stands st r.rising k.0 m k.1)) (stands_remembered k.0 (among_listed (order_of st) k.0 (inside k.0 k.2)))
 
-  mask_places : places st (mask_of st) ≡ everything P
+  pub mask_places : places st (mask_of st) ≡ everything P
   mask_places = same_set (places st (mask_of st)) (everything P) (places_environment (mask_of st) (λ k h. h)) (λ m h.
       let k : (k : ℕ) × Beside k m = slot_for m h in
       let e : slot_of st m ≡ Some k.0 = slot_is st r.rising k.0 m k.1 in

@@ -37,7 +37,7 @@ module _ {N M : Type 0} (E : Set N) (F : Set M) where
         at_name e f g = cc
 
 module _ {N M : Type 0} (E G : Set N) (F H : Set M) where
-  same_comparison : (xs : List N) (ys : List M) → map E xs ≡ map F ys → map G xs ≡ map H ys → compare_in xs E G ≡ compare_in ys F H
+  pub same_comparison : (xs : List N) (ys : List M) → map E xs ≡ map F ys → map G xs ≡ map H ys → compare_in xs E G ≡ compare_in ys F H
   same_comparison xs ys same others =
       let sizes : nat_cmp (count_by E xs) (count_by G xs) ≡ nat_cmp (count_by F ys) (count_by H ys) = ap₂ nat_cmp (same_count E F xs ys same) (same_count G H xs ys others) in
       ap₂ first_of_both sizes (same_first E F G H xs ys same others)

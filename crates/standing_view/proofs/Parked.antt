@@ -18,7 +18,7 @@ use Rattle.standing_view.specs.View.{StandsFor, IsParked, IsReadingOf, is_fact, 
 use Rattle.standing_view.specs.Laws.{AReadingIsParked, AParkedReadingStands, AParkedReadingIsForgotten}
 use Rattle.standing_view.proofs.Growing.{same_or_not, some_is_not_none, same_reading, one_reading_more, parts_as_before, slots_as_before}
 use Rattle.standing_view.proofs.Inserted.{in_inserted, kept_inserted, there_inserted}
-use Rattle.circuit_model.proofs.Cells.{same_cell, cell_itself}
+use Rattle.circuit_model.proofs.SameCells.{same_cell, cell_itself}
 use Rattle.standing_view.proofs.Removed.{map-remove, rising_removed, order_removed, in_removed, this_or_removed, not_in_removed}
 
 -- one fact, by its test
@@ -52,7 +52,7 @@ is_other f g readings h =
     never : (b : Bool) → b ≡ false → b ≡ true → ⊥
     never b e f = cc
 
-none_is_not_some : (o : Option Assumption) → o ≡ None → IsSome o → ⊥
+pub none_is_not_some : (o : Option Assumption) → o ≡ None → IsSome o → ⊥
 none_is_not_some None e h = cc
 none_is_not_some (Some a) e h = cc
 

@@ -6,7 +6,7 @@ use Rattle.std.proofs.lemmas.Bool.Decides.{nat_tests}
 use Rattle.std.proofs.lemmas.List.{length-map, length-append}
 use Rattle.std.proofs.lemmas.List.FromFn.{length-map-range_with_len}
 use Rattle.circuit_model.specs.declared.model.Cell.{Cell}
-use Rattle.circuit_model.proofs.Cells.{same_cell, cell_itself, not_before_itself}
+use Rattle.circuit_model.proofs.SameCells.{same_cell, cell_itself, not_before_itself}
 use Rattle.circuit_model.specs.Diagnoses.{Place, AtPart, AtCell}
 use Rattle.circuit_model.specs.Present.{is_cell, is_cell_before}
 use Rattle.environment_sets.specs.Lists.{IsIn, AreDistinct}

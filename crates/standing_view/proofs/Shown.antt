@@ -6,7 +6,7 @@ use Rattle.circuit_model.specs.Present.{is_cell}
 use Rattle.environment_sets.specs.Lists.{AreDistinct}
 use Rattle.environment_sets.proofs.Membership.{IsIn-slice_get}
 use Rattle.standing_view.specs.View.{beside}
-use Rattle.circuit_model.proofs.Cells.{same_cell, cell_itself}
+use Rattle.circuit_model.proofs.SameCells.{same_cell, cell_itself}
 
 pub beside_at : (cells : List Cell) (slots : List ℕ) (i : ℕ) (c : Cell) (k : ℕ) → AreDistinct cells → slice_get cells i ≡ Some c → slice_get slots i ≡ Some k → beside (λ d. is_cell d c) cells slots ≡ Some k
 beside_at [] slots i c k apart a b = absurd (cc)

@@ -1,5 +1,5 @@
 -- Laws of what stands for a present.
-use Rattle.std.specs.Prelude.{◌≡◌, ◌≢◌, ◌↔◌, ℕ, ◌≤◌, List, [], ◌∷◌, length, slice_get, Some, None}
+use Rattle.std.specs.Prelude.{◌≡◌, ◌↔◌, ℕ, ◌-◌, ◌≤◌, List, [], ◌∷◌, length, slice_get, Some, None}
 use Rattle.std.specs.List.{remove}
 use Rattle.circuit_model.specs.declared.model.Fact.{Fact}
 use Rattle.circuit_model.specs.declared.limits.TheConstants.{MOST_EARLIER}
@@ -8,15 +8,15 @@ use Rattle.circuit_model.specs.declared.model.Assumption.TheVariants.{Part, Read
 use Rattle.circuit_model.specs.declared.present.Component.{Component}
 use Rattle.circuit_model.specs.declared.present.Net.{Net}
 use Rattle.circuit_model.specs.Diagnoses.{Place}
-use Rattle.circuit_model.specs.Present.{PresentView, IsLawful, empty_present, reading_in, with_net, with_part, with_standing}
+use Rattle.circuit_model.specs.Present.{PresentView, IsLawful, empty_present, reading_in, with_net, with_part, without_last_part, with_standing}
 use Rattle.circuit_model.specs.Renaming.{IsRenaming}
 use Rattle.circuit_model.specs.Stock.{Stock, IsEnvironment, IsInLabel, IsNogood, within}
 use Rattle.circuit_model.specs.Whole.{stock, everything, order_of_present}
 use Rattle.environment_sets.specs.Sets.{Set, ◌⊆◌}
 use Rattle.environment_sets.specs.Lists.{IsIn}
 use Rattle.environment_sets.specs.Orders.{ComesBefore}
-use Rattle.label_engine.specs.Engine.{Remembers, AreAllTaken}
-use Rattle.standing_view.specs.Standing.{Stands, nothing_stands, order_of, mask_of, with_part_at, with_reading_at, without_reading_at}
+use Rattle.label_engine.specs.Engine.{Remembers, Forgets, AreAllTaken}
+use Rattle.standing_view.specs.Standing.{Stands, nothing_stands, order_of, mask_of, with_part_at, with_reading_at, without_reading_at, without_last_part_at}
 use Rattle.standing_view.specs.View.{StandsFor, without_fact, slot_of, place_of, places}
 
 -- slots and places name the same assumptions
@@ -94,17 +94,17 @@ AParkedReadingStands =
     (S : Stock ℕ) (st : Stands) (P : PresentView) (parked : List Fact) (slot : ℕ) (f : Fact) → StandsFor S st P parked → reading_in P.readings f.cell ≡ None → IsIn parked f → S slot ≡ Some (Reading f)
     → StandsFor S (with_reading_at slot f.cell st) (with_standing f P) (without_fact f parked)
 
--- the slot stood for the assumption and is free now; every other slot stays as it was
-pub record Forgets (old : Stock ℕ) (slot : ℕ) (what : Assumption) (new : Stock ℕ) : Type 0 where
-  pub there : old slot ≡ Some what
-  pub free : new slot ≡ None
-  pub others : (k : ℕ) → k ≢ slot → new k ≡ old k
-
 -- a parked reading is forgotten, and nothing else is
 abbrev pub AParkedReadingIsForgotten : Type 0
 AParkedReadingIsForgotten =
     (S R : Stock ℕ) (st : Stands) (P : PresentView) (parked : List Fact) (slot : ℕ) (f : Fact) → StandsFor S st P parked → IsIn parked f → Forgets S slot (Reading f) R
     → StandsFor R st P (without_fact f parked)
+
+-- the last component stands no more and is forgotten
+abbrev pub TheLastComponentIsForgotten : Type 0
+TheLastComponentIsForgotten =
+    (S R : Stock ℕ) (st : Stands) (P : PresentView) (parked : List Fact) (slot : ℕ) (what : Assumption) → StandsFor S st P parked → slice_get st.parts (length st.parts - 1) ≡ Some slot → Forgets S slot what R
+    → StandsFor R (without_last_part_at st) (without_last_part P) parked
 
 -- what stands for a lawful present leaves a slot free beside the parked readings of as many presents as are kept
 abbrev pub SomeSlotIsFree : Type 0

@@ -1,5 +1,5 @@
 -- The slots of what stands, in order.
-use Rattle.std.specs.Prelude.{◌≡◌, ℕ, suc, ◌≤◌, ◌==◌, if◌then◌else◌, IsTrue, List, [], ◌∷◌, ◌++◌, length}
+use Rattle.std.specs.Prelude.{◌≡◌, ℕ, suc, ◌-◌, ◌≤◌, ◌==◌, if◌then◌else◌, IsTrue, List, [], ◌∷◌, ◌++◌, length, take}
 use Rattle.std.specs.List.{list_any, insert, remove}
 use Rattle.circuit_model.specs.declared.model.Cell.{Cell}
 use Rattle.circuit_model.specs.Present.{is_cell_before}
@@ -27,6 +27,14 @@ order_of st = st.parts ++ st.slots
 -- one of the slots is the number
 abbrev pub is_among : List ℕ → Set ℕ
 is_among slots = λ k. list_any (λ slot. k == slot) slots
+
+-- the slots of the components
+abbrev pub parts_of : Stands → Set ℕ
+parts_of st = is_among st.parts
+
+-- the slots of the measurements
+abbrev pub readings_of : Stands → Set ℕ
+readings_of st = is_among st.slots
 
 -- all slots that stand
 abbrev pub mask_of : Stands → Set ℕ
@@ -61,3 +69,7 @@ with_reading_at slot c st = let place = place_among c st.cells in record st { ce
 -- the measurement at the place stands no more
 abbrev pub without_reading_at : ℕ → Stands → Stands
 without_reading_at place st = record st { cells = remove st.cells place; slots = remove st.slots place }
+
+-- the last component stands no more
+abbrev pub without_last_part_at : Stands → Stands
+without_last_part_at st = record st { parts = take (length st.parts - 1) st.parts }

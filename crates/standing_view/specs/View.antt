@@ -1,7 +1,6 @@
 -- What stands, as a present.
-use Rattle.std.specs.Prelude.{◌≡◌, ◌⊎◌, ℕ, ◌<◌, ◌==◌, ◌&&◌, not, if◌then◌else◌, Bool, List, ◌∷◌, ◌++◌, length, map, Option, Some, None, IsSome, slice_get}
-use Rattle.std.specs.List.{range_with_len, filter}
-use Rattle.circuit_model.specs.declared.model.Cell.{Cell}
+use Rattle.std.specs.Prelude.{◌≡◌, ◌⊎◌, ℕ, ◌<◌, ◌==◌, ◌&&◌, not, if◌then◌else◌, Bool, List, ◌∷◌, length, map, Option, Some, None, IsSome, slice_get}
+use Rattle.std.specs.List.{filter}
 use Rattle.circuit_model.specs.declared.model.Fact.{Fact}
 use Rattle.circuit_model.specs.declared.model.Assumption.TheVariants.{Part, Reading}
 use Rattle.circuit_model.specs.Stock.{Stock}

@@ -1,6 +1,6 @@
 // Laws of what stands for a present.
 
-ghost use Rattle.standing_view.specs.Laws.{SlotsNameThePresent, SlotsHaveItsLabels, SlotsHaveItsNogoods, EnvironmentsAreSlots, SlotsAreEnvironments, TheMaskIsRemembered, TheMaskIsEverything, TheOrderIsThePresents, NothingStandsForNothing, NetsAlterNothing, OneComponentMore, OneMeasurementMore, AReadingIsParked, AParkedReadingStands, AParkedReadingIsForgotten, SomeSlotIsFree, FreeSlotsDoNotStand};
+ghost use Rattle.standing_view.specs.Laws.{SlotsNameThePresent, SlotsHaveItsLabels, SlotsHaveItsNogoods, EnvironmentsAreSlots, SlotsAreEnvironments, TheMaskIsRemembered, TheMaskIsEverything, TheOrderIsThePresents, NothingStandsForNothing, NetsAlterNothing, OneComponentMore, OneMeasurementMore, AReadingIsParked, AParkedReadingStands, AParkedReadingIsForgotten, TheLastComponentIsForgotten, SomeSlotIsFree, FreeSlotsDoNotStand};
 
 /// The slots that stand and the places of the present name the same assumptions.
 pub fn slots_name_the_present()
@@ -75,6 +75,11 @@ pub fn a_parked_reading_stands()
 /// A parked reading is forgotten, and nothing else is.
 pub fn a_parked_reading_is_forgotten()
     ensures { AParkedReadingIsForgotten }
+{}
+
+/// The last component stands no more and is forgotten, and nothing else is.
+pub fn the_last_component_is_forgotten()
+    ensures { TheLastComponentIsForgotten }
 {}
 
 /// What stands for a lawful present leaves a slot free, beside the parked readings of as many presents as are kept.

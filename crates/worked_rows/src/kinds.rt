@@ -83,3 +83,27 @@ fn rows_of_kinds(rt: HostRuntime) -> Result<(), Fail> {
     );
     run_rows(&rt, rt.alloc(), front, &KIND_ROWS)
 }
+
+// A register over three cycles: its input is seen at two of them, and then its output is seen wrong.
+const REGISTER_ROWS: [(&[u8], &[u8]); 5] = [
+    (b"label Q\nlabel Q@0\n", b"Q=0 {R;}\nok\nQ=0 {R;}\nok\n"),
+    (b"label Q@1\nlabel D@2\n", b"Q@1=5 {R;D}\nok\nok\n"),
+    (b"label Q@3\n", b"no 24 bad cycle\n"),
+    (
+        b"measure Q@2 7\nlabel Q@2\n",
+        b"ok\nQ@2=6 {R;D@1}\nQ@2=7 {;Q@2}\nok\n",
+    ),
+    (
+        b"measure Q@2 7\nlabel D@1\n",
+        b"ok\nD@1=6 {;D@1}\nD@1=7 {R;Q@2}\nok\n",
+    ),
+];
+
+#[test]
+fn register(rt: HostRuntime) -> Result<(), Fail> {
+    let front = (
+        b"cycles 3\nnet D 4\nnet Q 4\nreg R D Q 0\nmeasure D 5\nmeasure D@1 6\n".as_slice(),
+        b"ok\nok\nok\nok\nok\nok\n".as_slice(),
+    );
+    run_rows(&rt, rt.alloc(), front, &REGISTER_ROWS)
+}

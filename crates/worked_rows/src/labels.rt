@@ -1,7 +1,6 @@
 // Labels, by whole sessions.
 
-use crate::running::{NEVER, lines_ended, ran, run_rows};
-use bench_cli::Status;
+use crate::running::{ask_rows, run_rows};
 use std::test::Fail;
 
 // Whole sessions and their replies. In each, A, B and Z are nets of width 8, and S adds A and B to Z.
@@ -129,18 +128,5 @@ const LABEL_ROWS: [(&[u8], &[u8], &[u8]); 12] = [
 
 #[test]
 fn rows_of_labels(rt: HostRuntime) -> Result<(), Fail> {
-    let alloc = rt.alloc();
-    for (i, (lines, questions, replies)) in LABEL_ROWS.iter().enumerate() {
-        let mut text = Vec::from_slice(alloc, lines)?;
-        text.extend_from_slice(questions)?;
-        let mut want = Vec::new(alloc);
-        for _line in 0..lines_ended(lines) {
-            want.extend_from_slice(b"ok\n")?;
-        }
-        want.extend_from_slice(replies)?;
-        let (status, sink) = ran(alloc, "run", &text, 1024, NEVER, NEVER)?;
-        assert!(rt; status == Status::Done, "row {i}");
-        assert!(rt; sink.held() == want.as_slice(), "row {i}");
-    }
-    Ok(())
+    ask_rows(&rt, rt.alloc(), &LABEL_ROWS)
 }

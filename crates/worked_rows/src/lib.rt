@@ -2,11 +2,15 @@
 #![tactic(auto)]
 
 #[cfg(test)]
+mod diagnoses;
+#[cfg(test)]
 mod failing_streams;
 #[cfg(test)]
 mod kinds;
 #[cfg(test)]
 mod labels;
+#[cfg(test)]
+mod presents;
 #[cfg(test)]
 mod refusals;
 #[cfg(test)]

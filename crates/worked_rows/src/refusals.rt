@@ -58,7 +58,7 @@ fn each_by_its_first_check(rt: HostRuntime) -> Result<(), Fail> {
 }
 
 // Lines that are refused after a net N of width 4 and the lines of `SESSION`, with their replies.
-const REFUSED: [(&[u8], &[u8]); 63] = [
+const REFUSED: [(&[u8], &[u8]); 69] = [
     (b"net C 0", b"no 22 bad width\n"),
     (b"net C 33", b"no 22 bad width\n"),
     (b"net C", b"no 13 wrong word count\n"),
@@ -103,26 +103,35 @@ const REFUSED: [(&[u8], &[u8]); 63] = [
     (b"measure A", b"no 13 wrong word count\n"),
     (b"label @1", b"no 14 bad name\n"),
     (b"label A@", b"no 15 bad number\n"),
+    // another number of cycles, and another cost
+    (b"cycles 0", b"no 24 bad cycle\n"),
+    (b"cycles 17", b"no 24 bad cycle\n"),
+    (b"cycles 2", b"no 26 cycles not first\n"),
+    (b"cost A 41", b"no 27 unknown component\n"),
+    (b"cost S 0", b"no 28 bad cost\n"),
+    (b"cost S 41", b"no 28 bad cost\n"),
+    // a component that fails so may not be, and a block of no definition
+    (b"stuck A 4 2", b"no 27 unknown component\n"),
+    (b"stuck S 256 2", b"no 25 value does not fit\n"),
+    (b"stuck S 4 0", b"no 28 bad cost\n"),
+    (b"acts A xor 3", b"no 27 unknown component\n"),
+    (b"acts S add 1", b"no 29 bad mode\n"),
+    (b"acts S buf 1", b"no 29 bad mode\n"),
+    (b"acts S xor 41", b"no 28 bad cost\n"),
+    (b"pin T A 1", b"no 48 unknown block\n"),
+    (b"inside T and G A B Z", b"no 48 unknown block\n"),
+    (b"use T U A B", b"no 48 unknown block\n"),
     // not answered yet
-    (b"cycles 2", b"no 50 not built\n"),
     (b"retract A", b"no 50 not built\n"),
     (b"undo", b"no 50 not built\n"),
-    (b"cost S 1", b"no 50 not built\n"),
-    (b"stuck S 4 2", b"no 50 not built\n"),
-    (b"acts S xor 3", b"no 50 not built\n"),
-    (b"define T", b"no 50 not built\n"),
-    (b"pin T A 1", b"no 50 not built\n"),
-    (b"inside T and G A B Z", b"no 50 not built\n"),
-    (b"use T U A B", b"no 50 not built\n"),
-    (b"conflicts", b"no 50 not built\n"),
-    (b"diagnose", b"no 50 not built\n"),
     (b"probe", b"no 50 not built\n"),
     (b"explain Z 12", b"no 50 not built\n"),
     (b"why 1", b"no 50 not built\n"),
-    (b"show", b"no 50 not built\n"),
-    (b"first 2", b"no 50 not built\n"),
     (b"modes 4", b"no 50 not built\n"),
     (b"open S", b"no 50 not built\n"),
+    // no number of diagnoses that may be asked for
+    (b"first 0", b"no 47 bad count\n"),
+    (b"first 1001", b"no 47 bad count\n"),
     // no net, a measured cell, and a value that does not fit
     (b"measure Q 1", b"no 21 unknown net\n"),
     (b"measure S 1", b"no 21 unknown net\n"),
@@ -191,6 +200,16 @@ fn a_net_too_many(rt: HostRuntime) -> Result<(), Fail> {
     last_is_refused(&rt, alloc, &text, 256, b"no 30 nets full\n")
 }
 
+// With the most cycles.
+#[test]
+fn a_cell_too_many(rt: HostRuntime) -> Result<(), Fail> {
+    let alloc = rt.alloc();
+    let mut text = Vec::from_slice(alloc, b"cycles 16\n")?;
+    put_lines(&mut text, b"net N", 64, b" 1\n")?;
+    text.extend_from_slice(b"net M 1\n")?;
+    last_is_refused(&rt, alloc, &text, 65, b"no 32 cells full\n")
+}
+
 #[test]
 fn a_component_too_many(rt: HostRuntime) -> Result<(), Fail> {
     let alloc = rt.alloc();
@@ -209,6 +228,62 @@ fn a_measurement_too_many(rt: HostRuntime) -> Result<(), Fail> {
     put_lines(&mut text, b"measure N", 256, b" 1\n")?;
     text.extend_from_slice(b"measure N0 1\n")?;
     last_is_refused(&rt, alloc, &text, 512, b"no 33 measurements full\n")
+}
+
+#[test]
+fn a_mode_too_many(rt: HostRuntime) -> Result<(), Fail> {
+    let alloc = rt.alloc();
+    let mut text = Vec::from_slice(alloc, b"net A 8\nnet B 8\nbuf U A B\n")?;
+    put_lines(&mut text, b"stuck U ", 129, b" 2\n")?;
+    last_is_refused(&rt, alloc, &text, 131, b"no 35 modes full\n")
+}
+
+#[test]
+fn a_definition_too_many(rt: HostRuntime) -> Result<(), Fail> {
+    let alloc = rt.alloc();
+    let mut text = Vec::new(alloc);
+    put_lines(&mut text, b"define D", 33, b"\n")?;
+    last_is_refused(&rt, alloc, &text, 32, b"no 36 blocks full\n")
+}
+
+#[test]
+fn a_pin_too_many(rt: HostRuntime) -> Result<(), Fail> {
+    let alloc = rt.alloc();
+    let mut text = Vec::from_slice(alloc, b"define D\n")?;
+    put_lines(&mut text, b"pin D P", 29, b" 1\n")?;
+    last_is_refused(&rt, alloc, &text, 29, b"no 37 block full\n")
+}
+
+#[test]
+fn an_inner_component_too_many(rt: HostRuntime) -> Result<(), Fail> {
+    let alloc = rt.alloc();
+    let mut text = Vec::from_slice(alloc, b"define D\npin D P 1\npin D Q 1\n")?;
+    put_lines(&mut text, b"inside D buf U", 33, b" P Q\n")?;
+    last_is_refused(&rt, alloc, &text, 35, b"no 37 block full\n")
+}
+
+// Puts the lines of two components that cannot both be right.
+fn put_either(text: &mut Vec<u8>, number: u16) -> Result<(), Fail> {
+    let mut buffer = Buffer::new();
+    let digits = buffer.format(number).as_bytes();
+    for piece in ["net Z", " 1\nconst K", " Z", " 0\nconst L", " Z"] {
+        text.extend_from_slice(piece.as_bytes())?;
+        text.extend_from_slice(digits)?;
+    }
+    text.extend_from_slice(b" 1\n")?;
+    Ok(())
+}
+
+// Fourteen times one of two: 2^14 diagnoses, and 10,000 are listed.
+#[test]
+fn diagnoses_too_many(rt: HostRuntime) -> Result<(), Fail> {
+    let alloc = rt.alloc();
+    let mut text = Vec::new(alloc);
+    for number in 0..14 {
+        put_either(&mut text, number)?;
+    }
+    text.extend_from_slice(b"diagnose\n")?;
+    last_is_refused(&rt, alloc, &text, 42, b"no 45 too many diagnoses\n")
 }
 
 // The line, and then the same line with a byte more, that is refused.

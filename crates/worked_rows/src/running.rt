@@ -83,3 +83,25 @@ pub(crate) fn run_rows(
     }
     Ok(())
 }
+
+// Asks each row's questions after its lines. Each of the lines is answered `ok`, and the replies are those to the
+// questions alone.
+pub(crate) fn ask_rows(
+    rt: &impl Abort,
+    alloc: Global,
+    rows: &[(&[u8], &[u8], &[u8])],
+) -> Result<(), Fail> {
+    for (i, (lines, questions, replies)) in rows.iter().enumerate() {
+        let mut text = Vec::from_slice(alloc, lines)?;
+        text.extend_from_slice(questions)?;
+        let mut want = Vec::new(alloc);
+        for _line in 0..lines_ended(lines) {
+            want.extend_from_slice(b"ok\n")?;
+        }
+        want.extend_from_slice(replies)?;
+        let (status, sink) = ran(alloc, "run", &text, 1024, NEVER, NEVER)?;
+        assert!(rt; status == Status::Done, "row {i}");
+        assert!(rt; sink.held() == want.as_slice(), "row {i}");
+    }
+    Ok(())
+}

@@ -32,3 +32,6 @@ returns g c =
     let none : GivesNext (order_of_present c.args.present.now) (IsInLabel (stock c.args.present.now) c.args.fact) (everything c.args.present.now) (option_map (places c.args.standing.now) (option_map members c.environments.last)) None =
     rw (← c.as_ref.ensures.value) (c.in_default.ensures.next c.args.present.now [] c.requires.stands) in
     puts_all c.args.present.now c.args.standing.now c.args.fact c.environments.invariant none
+
+pub environments-smaller : goal.environments-smaller
+environments-smaller g c = rw (← c.as_ref.ensures.value) c.in-Some.ensures.falls

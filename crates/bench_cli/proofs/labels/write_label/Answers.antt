@@ -1,7 +1,7 @@
 use Rattle.std.proofs.Common.{[]}
 use Rattle.assumption_slots.specs.Slots as slots
 use Rattle.bench_cli.proofs.LabelLines.{remembered, puts_no_words, puts_word, all_words}
-use Rattle.bench_cli.proofs.Putting.{Puts-then, Writes-failed, Writes-done}
+use Rattle.bench_io.proofs.PutParts.{Puts-then, Writes-failed, Writes-done}
 use Rattle.bench_cli.proofs.labels.write_label.Goals as goal
 
 pub words-init : goal.words-init

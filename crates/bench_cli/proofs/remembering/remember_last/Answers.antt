@@ -21,7 +21,7 @@ add_part-requires-clause-free c = free_slots_do_not_stand (stock c.args.engine.n
 
 pub unreachable-requires : goal.unreachable-requires
 unreachable-requires c =
-    some_slot_is_free (stock c.args.engine.now.slots) c.args.standing.now (without_last_part c.args.present.now) [] c.requires.stands (IsLawful-without_last c.args.present.now c.parts.ensures.lawful) none_parked
+    some_slot_is_free (stock c.args.engine.now.slots) c.args.standing.now (without_last_part c.args.present.now) [] c.requires.stands (IsLawful-without_last c.args.present.now c.parts.ensures.lawful c.requires.unused) none_parked
     (c.in-Err-NoSlot.ensures.no_slot.0 (ap Err c.in-Err-NoSlot.field-0-is))
 
 pub returns-in-Ok-clause-ok : goal.returns-in-Ok-clause-ok

@@ -35,24 +35,24 @@ loop-answer-preserved g c =
     record {
       exchanges = i.exchanges ++ last ∷ [];
       read = n.0;
-      written = writes_whole i.exchanges last _ _ _ i.written w.2.whole;
-      kept = w.2.cause.kept ∙ i.kept;
-      refused = noted_refused _ _ i.exchanges last (c.note.ensures c.step.new.bench w.0 w.1) i.refused;
-      no_memory = noted_no_memory _ _ i.exchanges last (c.note.ensures c.step.new.bench w.0 w.1) i.no_memory;
+      written = writes_whole i.exchanges last _ _ _ i.written w.3.whole;
+      kept = w.3.cause.kept ∙ i.kept;
+      refused = noted_refused _ _ i.exchanges last w.2 i.refused;
+      no_memory = noted_no_memory _ _ i.exchanges last w.2 i.no_memory;
     }
 
-pub returns-in-Err-write_answer-clause-session : goal.returns-in-Err-write_answer-clause-session
-returns-in-Err-write_answer-clause-session g c =
+pub returns-in-Err-reply-clause-session : goal.returns-in-Err-reply-clause-session
+returns-in-Err-reply-clause-session g c =
     let i = c.loop-answer.invariant in
     let q = c.in-Ok-step.ensures in
-    let w = c.in-Err-write_answer.ensures in
+    let w = c.in-Err-reply.ensures in
     let n = stepped _ _ _ _ _ _ _ _ _ w.0 i.read q w.1 in
     let last : Exchange = record { line = q.answer.1.line; reply = w.0 } in
     record {
       exchanges = i.exchanges ++ last ∷ [];
       state = c.step.new.bench;
       run = n.0.run;
-      outcome = (reads_some _ _ _ _ _ n.0, writes_part i.exchanges last _ _ _ i.written w.2.front);
+      outcome = (reads_some _ _ _ _ _ n.0, writes_part i.exchanges last _ _ _ i.written w.3.front);
     }
 
 pub returns-in-Err-step-clause-session : goal.returns-in-Err-step-clause-session
@@ -65,29 +65,29 @@ returns-in-Err-step-clause-session g c =
       outcome = rw c.status_at.ensures (outcome_of c.in-Err-step.ending c.loop-answer.tally i.exchanges _ _ _ _ _ _ _ _ _ i.read i.written i.refused i.no_memory c.in-Err-step.ensures);
     }
 
-pub returns-in-Err-write_answer-clause-too_much : goal.returns-in-Err-write_answer-clause-too_much
-returns-in-Err-write_answer-clause-too_much g c = too_much_exactly _ _ _ _ _ (returns-in-Err-write_answer-clause-session g c)
+pub returns-in-Err-reply-clause-too_much : goal.returns-in-Err-reply-clause-too_much
+returns-in-Err-reply-clause-too_much g c = too_much_exactly _ _ _ _ _ (returns-in-Err-reply-clause-session g c)
 
 pub returns-in-Err-step-clause-too_much : goal.returns-in-Err-step-clause-too_much
 returns-in-Err-step-clause-too_much g c = too_much_exactly _ _ _ _ _ (returns-in-Err-step-clause-session g c)
 
-pub returns-in-Err-write_answer-clause-read_counted : goal.returns-in-Err-write_answer-clause-read_counted
-returns-in-Err-write_answer-clause-read_counted g c =
+pub returns-in-Err-reply-clause-read_counted : goal.returns-in-Err-reply-clause-read_counted
+returns-in-Err-reply-clause-read_counted g c =
     let kept = c.in-Ok-step.ensures.cause ∙ c.loop-answer.invariant.read.kept in
     λ more. absurd (omega (arith, kept, more))
 
-pub returns-in-Err-write_answer-clause-write_fault : goal.returns-in-Err-write_answer-clause-write_fault
-returns-in-Err-write_answer-clause-write_fault g c =
-    let w = c.in-Err-write_answer.ensures in
-    λ _. Rose-later _ _ _ (omega (arith, c.loop-answer.invariant.kept)) w.2.cause.failed
+pub returns-in-Err-reply-clause-write_fault : goal.returns-in-Err-reply-clause-write_fault
+returns-in-Err-reply-clause-write_fault g c =
+    let w = c.in-Err-reply.ensures in
+    λ _. Rose-later _ _ _ (omega (arith, c.loop-answer.invariant.kept)) w.3.cause.failed
 
-pub returns-in-Err-write_answer-clause-source_later : goal.returns-in-Err-write_answer-clause-source_later
-returns-in-Err-write_answer-clause-source_later g c = omega (arith, c.in-Ok-step.ensures.later, c.loop-answer.invariant.read.kept)
+pub returns-in-Err-reply-clause-source_later : goal.returns-in-Err-reply-clause-source_later
+returns-in-Err-reply-clause-source_later g c = omega (arith, c.in-Ok-step.ensures.later, c.loop-answer.invariant.read.kept)
 
-pub returns-in-Err-write_answer-clause-sink_later : goal.returns-in-Err-write_answer-clause-sink_later
-returns-in-Err-write_answer-clause-sink_later g c =
-    let w = c.in-Err-write_answer.ensures in
-    omega (arith, w.2.cause.later, c.loop-answer.invariant.kept)
+pub returns-in-Err-reply-clause-sink_later : goal.returns-in-Err-reply-clause-sink_later
+returns-in-Err-reply-clause-sink_later g c =
+    let w = c.in-Err-reply.ensures in
+    omega (arith, w.3.cause.later, c.loop-answer.invariant.kept)
 
 pub returns-in-Err-step-clause-read_counted : goal.returns-in-Err-step-clause-read_counted
 returns-in-Err-step-clause-read_counted g c =

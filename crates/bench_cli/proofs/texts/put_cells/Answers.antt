@@ -2,10 +2,11 @@ use Rattle.std.proofs.Common.{sym, ap, ◌∙◌, arith, take_all}
 use Rattle.std.specs.List.{join_with_byte}
 use Rattle.environment_sets.specs.Members.{members}
 use Rattle.standing_view.specs.View.{places}
-use Rattle.bench_cli.specs.Texts.{cell_text, cells_in}
+use Rattle.netlist_text.specs.Show.{cell_text}
+use Rattle.bench_cli.specs.Texts.{cells_in}
 use Rattle.bench_cli.proofs.LabelLines.{cell_at, cells_length}
 use Rattle.bench_cli.proofs.Joining.{PutsPieces-push, PutsPieces-as, PutsPieces-none, cells-chosen, cells-left}
-use Rattle.bench_cli.proofs.Putting.{Puts-as}
+use Rattle.bench_io.proofs.PutParts.{Puts-as}
 use Rattle.bench_cli.proofs.texts.put_cells.Goals as goal
 use Rattle.bench_cli.proofs.texts.put_cells.Goals.{then-has_reading, else-has_reading}
 

@@ -1,4 +1,4 @@
-use Rattle.bench_cli.proofs.Putting.{Puts-then}
+use Rattle.bench_io.proofs.PutParts.{Puts-then}
 use Rattle.bench_cli.proofs.texts.put_label_line.Goals as goal
 
 pub returns : goal.returns

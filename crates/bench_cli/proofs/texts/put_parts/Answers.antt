@@ -5,7 +5,7 @@ use Rattle.standing_view.specs.View.{places}
 use Rattle.bench_cli.specs.Texts.{part_names_in}
 use Rattle.bench_cli.proofs.Joining.{PutsPieces-push, PutsPieces-as, PutsPieces-none, part_names-chosen, part_names-left}
 use Rattle.bench_cli.proofs.LabelLines.{parts_length}
-use Rattle.bench_cli.proofs.Putting.{Puts-as}
+use Rattle.bench_io.proofs.PutParts.{Puts-as}
 use Rattle.bench_cli.proofs.texts.put_parts.Goals as goal
 use Rattle.bench_cli.proofs.texts.put_parts.Goals.{then-has_part, else-has_part}
 

@@ -1,6 +1,8 @@
 use Rattle.std.proofs.Common.{[], ◌++◌, codes, refl}
 use Rattle.bench_cli.specs.Replies.{Text, Refused, NoMemory}
-use Rattle.bench_cli.specs.Texts.{label_lines}
+use Rattle.netlist_text.specs.Show.{text_of}
+use Rattle.bench_cli.specs.Texts.{label_lines, components_lines}
+use Rattle.environment_sets.specs.Members.{sets}
 use Rattle.bench_cli.proofs.writing.write_answer.Goals as goal
 
 pub returns-in-Nothing : goal.returns-in-Nothing
@@ -20,3 +22,12 @@ returns-in-Refused g c = rw c.in-Refused.is (Refused c.in-Refused.refusal, refl,
 
 pub returns-in-NoMemory : goal.returns-in-NoMemory
 returns-in-NoMemory g c = rw c.in-NoMemory.is (NoMemory, refl, c.write_refusal-in-NoMemory.ensures)
+
+pub returns-in-Conflicts : goal.returns-in-Conflicts
+returns-in-Conflicts g c = rw c.in-Conflicts.is (Text (components_lines c.args.bench.now.present (sets c.in-Conflicts.found) ++ codes "ok\n"), refl, c.write_sets.ensures)
+
+pub returns-in-Diagnoses : goal.returns-in-Diagnoses
+returns-in-Diagnoses g c = rw c.in-Diagnoses.is (Text (components_lines c.args.bench.now.present (sets c.in-Diagnoses.found) ++ codes "ok\n"), refl, c.write_sets-in-Diagnoses.ensures)
+
+pub returns-in-Show : goal.returns-in-Show
+returns-in-Show g c = rw c.in-Show.is (Text (text_of c.args.bench.now.present), refl, c.write_present.ensures)

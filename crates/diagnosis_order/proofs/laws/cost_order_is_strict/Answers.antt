@@ -1,5 +1,5 @@
-use Rattle.diagnosis_order.proofs.Before.{cost_order_is_strict}
+use Rattle.environment_sets.proofs.CostOrder.{cost_order_is_strict}
 use Rattle.diagnosis_order.proofs.laws.cost_order_is_strict.Goals as goal
 
 pub returns : goal.returns
-returns g c = cost_order_is_strict _
+returns g c = cost_order_is_strict

@@ -4,7 +4,7 @@ use Rattle.std.proofs.lemmas.List.{length-map}
 use Rattle.environment_sets.specs.declared.environment.Env.{Env}
 use Rattle.environment_sets.specs.Members.{members, sets}
 use Rattle.hitting_sets.specs.Hitting.{IsMinimalFor, AreMinimalFor}
-use Rattle.diagnosis_order.specs.Costs.{ComesBeforeByCost}
+use Rattle.environment_sets.specs.Costs.{ComesBeforeByCost}
 use Rattle.diagnosis_order.proofs.Found.{listing_of_roster, lists_minimal}
 use Rattle.diagnosis_order.proofs.listing.diagnoses.Goals as goal
 

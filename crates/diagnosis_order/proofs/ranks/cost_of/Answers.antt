@@ -3,8 +3,9 @@ use Rattle.environment_sets.specs.declared.environment.TheConstants.{SLOTS}
 use Rattle.environment_sets.specs.Members.{members}
 use Rattle.environment_sets.proofs.Listings.{IsIn-get_or}
 use Rattle.environment_sets.proofs.Slots.{slots_are_below}
-use Rattle.diagnosis_order.specs.Costs.{cost_in}
-use Rattle.diagnosis_order.proofs.Sums.{cost_step, cost_past, cost_bound}
+use Rattle.environment_sets.specs.Costs.{cost_in}
+use Rattle.environment_sets.proofs.CostSums.{cost_step, cost_past}
+use Rattle.diagnosis_order.proofs.Sums.{cost_bound}
 use Rattle.diagnosis_order.proofs.ranks.cost_of.Goals as goal
 
 pub cost_at-cost-requires : goal.cost_at-cost-requires
@@ -17,7 +18,7 @@ overflow_add-cost c =
     let E = members c.args.set.now in
     let bound : cost_in order costs E ≤ 255 * SLOTS = cost_bound SLOTS 255 order costs E c.requires.slots c.requires.listed (slots_are_below c.args.set.now) (λ k. omega (arith, c.type_inv.costs k)) in
     let step : cost_in (drop c.loop-i.i order) (drop c.loop-i.i costs) E ≡ cond (E (get_or order c.loop-i.i 0)) (get_or costs c.loop-i.i 0) 0 + cost_in (drop (c.loop-i.i + 1) order) (drop (c.loop-i.i + 1) costs) E =
-    cost_step order costs c.loop-i.i E c.loop-i-test.true c.requires.costs in
+    cost_step 0 order costs c.loop-i.i E c.loop-i-test.true c.requires.costs in
     omega (arith, c.cost_at-cost.ensures, c.loop-i.invariant)
 
 pub loop-i-preserved : goal.loop-i-preserved
@@ -26,7 +27,7 @@ loop-i-preserved c =
     let costs = c.args.costs.now in
     let E = members c.args.set.now in
     let step : cost_in (drop c.loop-i.i order) (drop c.loop-i.i costs) E ≡ cond (E (get_or order c.loop-i.i 0)) (get_or costs c.loop-i.i 0) 0 + cost_in (drop (c.loop-i.i + 1) order) (drop (c.loop-i.i + 1) costs) E =
-    cost_step order costs c.loop-i.i E c.loop-i-test.true c.requires.costs in
+    cost_step 0 order costs c.loop-i.i E c.loop-i-test.true c.requires.costs in
     omega (arith, c.cost_at-cost.ensures, c.loop-i.invariant)
 
 pub returns : goal.returns

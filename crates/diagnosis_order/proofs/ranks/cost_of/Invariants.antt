@@ -1,6 +1,6 @@
 use Rattle.std.proofs.Common.{◌≡◌, ◌+◌, drop}
 use Rattle.environment_sets.specs.Members.{members}
-use Rattle.diagnosis_order.specs.Costs.{cost_in}
+use Rattle.environment_sets.specs.Costs.{cost_in}
 use Rattle.diagnosis_order.proofs.ranks.cost_of.Given as goal
 
 abbrev pub invariant-loop-i : goal.invariant-loop-i

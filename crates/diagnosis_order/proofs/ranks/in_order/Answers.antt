@@ -6,7 +6,7 @@ use Rattle.environment_sets.specs.declared.environment.Env.{Env}
 use Rattle.environment_sets.specs.Members.{members, sets, HasMember}
 use Rattle.environment_sets.specs.Lists.{IsListing}
 use Rattle.diagnosis_order.specs.declared.ranks.Ranked.{Ranked}
-use Rattle.diagnosis_order.specs.Costs.{ComesBeforeByCost}
+use Rattle.environment_sets.specs.Costs.{ComesBeforeByCost}
 use Rattle.diagnosis_order.specs.Ranks.{ranked_of}
 use Rattle.diagnosis_order.proofs.Ranking.{sorted_listing}
 use Rattle.diagnosis_order.proofs.ranks.in_order.Goals as goal

@@ -2,7 +2,7 @@ use Rattle.std.proofs.Common.{ℕ, List, sym, subst}
 use Rattle.environment_sets.specs.declared.environment.TheConstants.{SLOTS}
 use Rattle.environment_sets.specs.Members.{HasMember}
 use Rattle.environment_sets.specs.Orders.{IsOrder}
-use Rattle.diagnosis_order.specs.Costs.{ListsEach}
+use Rattle.environment_sets.specs.Costs.{ListsEach}
 use Rattle.diagnosis_tests.proofs.Rising.{is_order, lists_each}
 use Rattle.diagnosis_tests.proofs.first.firsts.Goals as goal
 

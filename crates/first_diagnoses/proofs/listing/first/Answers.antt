@@ -4,7 +4,7 @@ use Rattle.environment_sets.specs.declared.environment.Env.{Env}
 use Rattle.environment_sets.specs.Sets.{Set}
 use Rattle.environment_sets.specs.Members.{sets}
 use Rattle.hitting_sets.specs.Hitting.{IsMinimalFor}
-use Rattle.diagnosis_order.specs.Costs.{ComesBeforeByCost}
+use Rattle.environment_sets.specs.Costs.{ComesBeforeByCost}
 use Rattle.first_diagnoses.specs.declared.problem.Problem.{Problem}
 use Rattle.first_diagnoses.specs.First.{AreFirst}
 use Rattle.first_diagnoses.specs.Weights.{weight_for, IsProblem}

@@ -1,6 +1,6 @@
 use Rattle.std.proofs.Common.{◌≡◌, ◌+◌, drop}
 use Rattle.environment_sets.specs.Members.{members}
-use Rattle.diagnosis_order.specs.Costs.{cost_in}
+use Rattle.environment_sets.specs.Costs.{cost_in}
 use Rattle.first_diagnoses.specs.Weights.{weight_in}
 use Rattle.first_diagnoses.proofs.problem.weight_of.Given as goal
 

@@ -27,3 +27,7 @@ returns-clause-next c = λ P parked r.
 pub returns-clause-falls : goal.returns-clause-falls
 returns-clause-falls c =
     left_standing c.args.standing.now c.order.result.now (members c.mask-mask.result) c.order.ensures.value c.mask-mask.ensures (sets (label_of c.args.engine.now.kept c.args.fact)) (option_map members (option_copied c.args.last)) c.label_after.result c.label_after.ensures.falls
+
+pub returns-clause-slots : goal.returns-clause-slots
+returns-clause-slots c =
+    next_standing c.args.standing.now c.order.result.now (members c.mask-mask.result) c.order.ensures.value c.mask-mask.ensures (stock c.args.engine.now.slots) c.args.fact (option_map members (option_copied c.args.last)) (option_map members c.label_after.result) c.label_after.ensures.next

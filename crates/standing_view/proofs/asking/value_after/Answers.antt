@@ -12,3 +12,7 @@ returns-clause-next c = λ P parked r.
 pub returns-clause-falls : goal.returns-clause-falls
 returns-clause-falls c =
     words_standing c.args.standing.now c.args.cell (members c.mask-mask.result) c.mask-mask.ensures c.args.engine.now.kept c.args.last c.values_after.result c.values_after.ensures.falls
+
+pub returns-clause-slots : goal.returns-clause-slots
+returns-clause-slots c =
+    word_standing c.args.standing.now c.args.cell (members c.mask-mask.result) c.mask-mask.ensures (stock c.args.engine.now.slots) c.args.last c.values_after.result c.values_after.ensures.next

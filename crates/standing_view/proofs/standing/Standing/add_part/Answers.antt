@@ -4,7 +4,7 @@ use Rattle.circuit_model.specs.declared.limits.TheConstants.{MOST_PARTS}
 use Rattle.environment_sets.specs.Lists.{IsIn}
 use Rattle.environment_sets.specs.Sets.{Set, only, ◌∪◌}
 use Rattle.standing_view.specs.Kept.{stands_of}
-use Rattle.standing_view.specs.Standing.{Stands, IsStanding, order_of, mask_of, with_part_at}
+use Rattle.standing_view.specs.Standing.{Stands, IsStanding, order_of, parts_of, readings_of, with_part_at}
 use Rattle.standing_view.proofs.Kept.{part_stands, part_put}
 use Rattle.standing_view.proofs.Masks.{part_among}
 use Rattle.standing_view.proofs.standing.Standing.add_part.Goals as goal
@@ -21,7 +21,8 @@ invariant_of-self c =
     record {
       standing = subst (λ (st : Stands). IsStanding st) (sym put) (part_stands before c.self.invariant.standing slot c.requires.below free room);
       count = omega arith;
-      mask = c.with-self-inside.ensures ∙ (ap (λ (M : Set ℕ). M ∪ only slot) c.self.invariant.mask ∙ (part_among before slot ∙ ap mask_of (sym put)));
+      components = c.with-self-inside.ensures ∙ (ap (λ (M : Set ℕ). M ∪ only slot) c.self.invariant.components ∙ (part_among before slot ∙ ap parts_of (sym put)));
+      measurements = c.self.invariant.measurements ∙ ap readings_of (sym put);
       room = omega arith;
       cells_room = c.self.invariant.cells_room;
     }

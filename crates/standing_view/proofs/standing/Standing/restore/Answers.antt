@@ -7,7 +7,7 @@ use Rattle.circuit_model.specs.declared.limits.TheConstants.{MOST_READINGS}
 use Rattle.environment_sets.specs.Lists.{IsIn}
 use Rattle.environment_sets.specs.Sets.{Set, only, ◌∪◌}
 use Rattle.standing_view.specs.Kept.{stands_of}
-use Rattle.standing_view.specs.Standing.{Stands, IsStanding, order_of, mask_of, place_among, with_reading_at}
+use Rattle.standing_view.specs.Standing.{Stands, IsStanding, order_of, parts_of, readings_of, place_among, with_reading_at}
 use Rattle.standing_view.proofs.Kept.{reading_stands, reading_put, place-within}
 use Rattle.standing_view.proofs.Masks.{reading_among}
 use Rattle.standing_view.proofs.standing.Standing.restore.Goals as goal
@@ -34,7 +34,8 @@ invariant_of-self c =
     record {
       standing = subst (λ (st : Stands). IsStanding st) (sym put) (reading_stands before c.self.invariant.standing slot c.requires.below free cell new room);
       count = omega arith;
-      mask = c.with-self-inside.ensures ∙ (ap (λ (M : Set ℕ). M ∪ only slot) c.self.invariant.mask ∙ (reading_among before slot cell ∙ ap mask_of (sym put)));
+      components = c.self.invariant.components ∙ ap parts_of (sym put);
+      measurements = c.with-self-inside.ensures ∙ (ap (λ (M : Set ℕ). M ∪ only slot) c.self.invariant.measurements ∙ (reading_among before slot cell ∙ ap readings_of (sym put)));
       room = omega arith;
       cells_room = omega arith;
     }

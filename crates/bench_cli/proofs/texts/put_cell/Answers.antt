@@ -1,5 +1,0 @@
-use Rattle.bench_cli.proofs.Putting.{Puts-then}
-use Rattle.bench_cli.proofs.texts.put_cell.Goals as goal
-
-pub returns : goal.returns
-returns g c = rw (c.net_at-name.ensures, ← c.bytes.ensures.bytes) (Puts-then c.put-failed.ensures c.put_cycle.ensures)

@@ -1,0 +1,7 @@
+use Rattle.std.proofs.Common.{take, map}
+use Rattle.bench_io.specs.Puts.{Puts}
+use Rattle.netlist_text.specs.Show.{text_of_lines, net_words}
+use Rattle.netlist_text.proofs.show.put_nets.Given as goal
+
+abbrev pub invariant-loop-place : goal.invariant-loop-place
+invariant-loop-place g l = Puts l.initial.failed l.failed (g.K.Sink.told l.initial.sink) (g.K.Sink.told l.sink) (text_of_lines (map net_words (take l.place l.present.nets)))
