@@ -1,0 +1,4 @@
+pub mod Covering
+pub mod Words
+pub mod Weighing
+pub mod Planning

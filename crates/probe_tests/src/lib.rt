@@ -1,0 +1,5 @@
+// The best next measurement at work.
+#![tactic(auto)]
+
+#[cfg(test)]
+mod tests;

@@ -1,0 +1,7 @@
+pub mod Found
+pub mod Assumed
+pub mod Instances
+pub mod Fitting
+pub mod Told
+pub mod Nothing
+pub mod Valid

@@ -1,0 +1,12 @@
+// Derivations: what shows that a fact follows from an environment of a present, or that the environment clashes; and the
+// closing of one environment, round by round.
+#![tactic(auto)]
+
+mod checker;
+mod conclusions;
+mod derivation;
+mod premises;
+mod written;
+
+pub use checker::check;
+pub use derivation::{Derivation, Ending, Goal, Step, Steps};

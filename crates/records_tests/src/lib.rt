@@ -1,0 +1,5 @@
+// Calls of records and their lists.
+#![tactic(auto)]
+
+#[cfg(test)]
+mod chains;

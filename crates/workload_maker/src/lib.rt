@@ -1,0 +1,7 @@
+// Generated circuits to work on.
+#![tactic(auto)]
+
+mod boxes;
+mod making;
+
+pub use making::{MOST_BOXES, MakeStop, polyboxes};
