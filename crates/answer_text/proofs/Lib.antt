@@ -1,0 +1,4 @@
+pub mod Joining
+pub mod Naming
+pub mod LabelLines
+pub mod Listing

@@ -1,0 +1,10 @@
+use Rattle.std.proofs.Common.{take}
+use Rattle.environment_sets.specs.Members.{members}
+use Rattle.standing_view.specs.View.{places}
+use Rattle.answer_text.specs.Texts.{cells_in}
+use Rattle.answer_text.proofs.Joining.{PutsPieces}
+use Rattle.answer_text.proofs.texts.put_cells.Given as goal
+
+abbrev pub invariant-loop-place : goal.invariant-loop-place
+invariant-loop-place g l = PutsPieces l.initial.failed l.failed (g.K.Sink.told l.initial.sink) (g.K.Sink.told l.sink) l.is_first
+    (cells_in l.present (places l.standing (members l.env)) (take l.place l.present.readings))

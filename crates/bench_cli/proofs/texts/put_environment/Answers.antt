@@ -1,5 +1,0 @@
-use Rattle.bench_io.proofs.PutParts.{Puts-then}
-use Rattle.bench_cli.proofs.texts.put_environment.Goals as goal
-
-pub returns : goal.returns
-returns g c = Puts-then (Puts-then (Puts-then (Puts-then c.put-failed.ensures c.put_parts-failed.ensures) c.put-failed-2.ensures) c.put_cells-failed.ensures) c.put.ensures

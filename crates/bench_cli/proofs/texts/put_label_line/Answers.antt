@@ -1,5 +1,0 @@
-use Rattle.bench_io.proofs.PutParts.{Puts-then}
-use Rattle.bench_cli.proofs.texts.put_label_line.Goals as goal
-
-pub returns : goal.returns
-returns g c = Puts-then (Puts-then (Puts-then c.put_fact-failed.ensures c.put-failed.ensures) c.put_environment-failed.ensures) c.put.ensures

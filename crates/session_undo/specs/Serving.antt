@@ -1,0 +1,93 @@
+-- What a change or a question comes to.
+use Rattle.std.specs.Prelude.{◌≡◌, ◌≢◌, ◌⊎◌, ℕ, true, List, None, Some, Result, MatchResult}
+use Rattle.circuit_model.specs.declared.model.Cell.{Cell}
+use Rattle.circuit_model.specs.Present.{circuit_of}
+use Rattle.circuit_model.specs.Probe.{AreConflicts, AreDiagnoses}
+use Rattle.environment_sets.specs.Members.{sets}
+use Rattle.environment_sets.specs.Sets.{Set}
+use Rattle.netlist_text.specs.Lookups.{cell_of}
+use Rattle.netlist_text.specs.declared.misfits.Misfit.{Misfit}
+use Rattle.netlist_text.specs.declared.misfits.Misfit.TheVariants.{OutOfMemory}
+use Rattle.netlist_text.specs.declared.requests.Change.{Change}
+use Rattle.netlist_text.specs.declared.requests.Change.TheVariants.{Net, Add, Measure, Cycles, Retract, Undo, Cost, Stuck, Acts, Define, Pin, Inside, UseBlock}
+use Rattle.netlist_text.specs.declared.requests.Query.{Query}
+use Rattle.netlist_text.specs.declared.requests.Query.TheVariants.{Label, Conflicts, Diagnose, Show, First}
+use Rattle.netlist_text.specs.declared.requests.Request.{Request}
+use Rattle.netlist_text.specs.declared.requests.Request.TheVariants as request
+use Rattle.session_undo.specs.Presents.{State, after}
+use Rattle.session_undo.specs.Checks.{checks_of, first_refusal, late_checks_of, IsFirstCause, HasNoCause}
+use Rattle.session_undo.specs.Steps.{wants_memory, AreFirstDiagnoses}
+use Rattle.session_undo.specs.declared.answers.Answer.{Answer}
+use Rattle.session_undo.specs.declared.answers.Answer.TheVariants as answer
+use Rattle.session_undo.specs.declared.refusals.Refusal.{Refusal}
+use Rattle.session_undo.specs.declared.refusals.Refusal.TheVariants as refusal
+use Rattle.session_undo.specs.declared.refusals.Stop.{Stop}
+use Rattle.session_undo.specs.declared.refusals.Stop.TheVariants as stop
+
+-- What a misfit stops a change with: that of memory with the want of it, and each other one with a refusal.
+abbrev pub IsStopFor : Misfit → Stop → Type 0
+IsStopFor m (stop.Refused refused) = (m ≢ OutOfMemory) × (refused ≡ refusal.Misfit m)
+IsStopFor m stop.OutOfMemory = m ≡ OutOfMemory
+
+-- a change after which nothing more and nothing less is remembered and stands
+abbrev pub RemembersNothing : Change → Type 0
+RemembersNothing (Cycles count) = Unit {0}
+RemembersNothing (Net name width) = Unit {0}
+RemembersNothing (Add name kind nets) = ⊥
+RemembersNothing (Cost name cost) = Unit {0}
+RemembersNothing (Stuck name value cost) = Unit {0}
+RemembersNothing (Acts name kind cost) = Unit {0}
+RemembersNothing (Define block) = Unit {0}
+RemembersNothing (Pin block name width) = Unit {0}
+RemembersNothing (Inside block name kind nets) = Unit {0}
+RemembersNothing (UseBlock block name nets) = ⊥
+RemembersNothing (Measure net cycle value) = ⊥
+RemembersNothing (Retract net cycle) = ⊥
+RemembersNothing Undo = ⊥
+
+-- the first check that applies refuses, or none does, and then the first of the causes that come after memory was found
+abbrev pub IsRefused : State → Request → Refusal → Type 0
+IsRefused old request refusal = (first_refusal (checks_of old request) ≡ Some refusal) ⊎ ((first_refusal (checks_of old request) ≡ None) × IsFirstCause (late_checks_of old request) refusal)
+
+-- no check applies before memory is asked for, and the request may find none
+pub record FindsNoMemory (old : State) (request : Request) : Type 0 where
+  pub free : first_refusal (checks_of old request) ≡ None
+  pub wants : wants_memory old request ≡ true
+
+-- the request is refused with this, or finds no memory
+abbrev pub IsStoppedBy : State → Request → Stop → Type 0
+IsStoppedBy old request (stop.Refused refusal) = IsRefused old request refusal
+IsStoppedBy old request stop.OutOfMemory = FindsNoMemory old request
+
+-- no check applies to the request
+pub record IsFree (old : State) (request : Request) : Type 0 where
+  pub early : first_refusal (checks_of old request) ≡ None
+  pub late : HasNoCause (late_checks_of old request)
+
+-- A change is made where no check applies to it; or it is stopped, and then all is as before.
+abbrev pub Changes : State → Change → Result (Unit {0}) Stop → State → Type 0
+Changes old change result new = MatchResult result (λ done. IsFree old (request.Change change) × (new ≡ after old change)) (λ s. IsStoppedBy old (request.Change change) s × (new ≡ old))
+
+-- the question is for the label of the cell
+pub record AsksLabel (s : State) (query : Query) (cell : Cell) : Type 0 where
+  pub net : List ℕ
+  pub cycle : ℕ
+  pub asks : query ≡ Label net cycle
+  pub is : cell ≡ cell_of s.present net cycle
+
+-- the question is for the first diagnoses, and these are they
+pub record AsksFirst (s : State) (query : Query) (found : List (Set ℕ)) : Type 0 where
+  pub number : ℕ
+  pub asks : query ≡ First number
+  pub are : AreFirstDiagnoses s.present number found
+
+-- the answer is one to the question
+abbrev pub Answers : State → Query → Answer → Type 0
+Answers s query (answer.Label cell) = AsksLabel s query cell
+Answers s query (answer.Conflicts found) = (query ≡ Conflicts) × AreConflicts (circuit_of s.present) (sets found)
+Answers s query (answer.Diagnoses found) = ((query ≡ Diagnose) × AreDiagnoses (circuit_of s.present) (sets found)) ⊎ AsksFirst s query (sets found)
+Answers s query answer.Show = query ≡ Show
+
+-- A question is answered where no check applies to it, or it is stopped.
+abbrev pub Asked : State → Query → Result Answer Stop → Type 0
+Asked s query result = MatchResult result (λ a. IsFree s (request.Query query) × Answers s query a) (IsStoppedBy s (request.Query query))
