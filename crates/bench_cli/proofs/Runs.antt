@@ -1,7 +1,10 @@
 -- Runs that grow by one line.
 use Rattle.std.proofs.Common.{◌≡◌, ℕ, Bool, true, false, ◌||◌, List, [], ◌∷◌, ◌++◌, refl, sym, ◌∙◌, ap, subst, append_assoc}
-use Rattle.bench_cli.specs.Replies.{Exchange, text_of, transcript, lines_of_exchanges, has_refused, has_no_memory, is_refused, is_no_memory}
-use Rattle.bench_cli.specs.State.{State, Run, Takes}
+use Rattle.session_undo.specs.Replies.{text_of}
+use Rattle.bench_cli.specs.Replies.{Exchange, transcript, lines_of_exchanges, has_refused, has_no_memory, is_refused, is_no_memory}
+use Rattle.session_undo.specs.Presents.{State}
+use Rattle.session_undo.specs.Steps.{Takes}
+use Rattle.bench_cli.specs.Runs.{Run}
 
 pub Run-more : (s t u : State) (es : List Exchange) (e : Exchange) → Run s es t → Takes t e.line e.reply u → Run s (es ++ e ∷ []) u
 Run-more s t u [] e r k = let P : State → Type 0 = λ z. Takes z e.line e.reply u in (u, subst P r k, refl)

@@ -5,13 +5,14 @@ use Rattle.bench_io.specs.declared.limits.TheConstants.{LONGEST_LINE}
 use Rattle.bench_io.specs.Reading.{Reading, ReadsLine}
 use Rattle.bench_io.specs.declared.lines.Line.TheVariants.{TooLong}
 use Rattle.netlist_text.specs.declared.faults.LineFault.{LineFault}
-use Rattle.bench_cli.specs.Replies.{Reply, Text, Refused, NoMemory}
+use Rattle.session_undo.specs.Replies.{Reply, Text, Refused, NoMemory}
 use Rattle.bench_cli.specs.Serving.{Serves}
 use Rattle.netlist_text.specs.declared.requests.Request.{Request}
-use Rattle.bench_cli.specs.State.{State, Takes, Reads, too_long, unreadable, refused, refused_late, served}
+use Rattle.session_undo.specs.Presents.{State}
+use Rattle.session_undo.specs.Steps.{Takes, Reads, too_long, unreadable, refused, refused_late, served}
 use Rattle.bench_cli.specs.Turns.{Steps}
-use Rattle.bench_cli.specs.declared.replies.Answer.TheVariants as answer
-use Rattle.bench_cli.specs.declared.replies.Refusal.TheVariants.{LineTooLong, Unreadable}
+use Rattle.bench_cli.specs.declared.turn.LineAnswer.TheVariants as answer
+use Rattle.session_undo.specs.declared.refusals.Refusal.TheVariants.{LineTooLong, Unreadable}
 
 pub takes_too_long : (s : State) (line : List ℕ) → LONGEST_LINE < length line → Takes s line (Refused LineTooLong) s
 takes_too_long s line h = too_long h refl refl

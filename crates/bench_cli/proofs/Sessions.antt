@@ -10,8 +10,9 @@ use Rattle.bench_io.specs.declared.limits.TheConstants.{MOST_BYTES, BUFFER_ROOM}
 use Rattle.bench_io.specs.Reading.{Reading, lines_ahead}
 use Rattle.bench_io.proofs.LineLaws.{some_byte}
 use Rattle.bench_io.proofs.Bytes.{Consumes-then, Consumes-nothing, Appends-then}
-use Rattle.bench_cli.specs.Replies.{Exchange, Reply, text_of, transcript, lines_of_exchanges, has_refused, has_no_memory, is_refused, is_no_memory}
-use Rattle.bench_cli.specs.State.{State, empty}
+use Rattle.session_undo.specs.Replies.{Reply, text_of}
+use Rattle.bench_cli.specs.Replies.{Exchange, transcript, lines_of_exchanges, has_refused, has_no_memory, is_refused, is_no_memory}
+use Rattle.session_undo.specs.Presents.{State, empty}
 use Rattle.bench_cli.specs.Answers.{IsReply}
 use Rattle.bench_cli.specs.Turns.{Steps, ReadSofar, Cuts, CountsEnding, status_at, tally_after}
 use Rattle.bench_cli.specs.Session.{ReadsAll, ReadsTo, ReadsMost, ReadsSome, WhereTold, AnswersAll, Outcome, WritesPart}
@@ -20,7 +21,7 @@ use Rattle.bench_cli.specs.declared.Status.TheVariants.{ReadFault}
 use Rattle.bench_cli.specs.declared.session.Tally.{Tally}
 use Rattle.bench_cli.specs.declared.session.Ending.{Ending}
 use Rattle.bench_cli.specs.declared.session.Ending.TheVariants as ending
-use Rattle.bench_cli.specs.declared.replies.Answer.{Answer}
+use Rattle.bench_cli.specs.declared.turn.LineAnswer.{LineAnswer}
 use Rattle.bench_cli.proofs.Lines.{Cuts-more, Cuts-last, Cuts-nothing, Cuts-whole, Cuts-all, Cuts-session}
 use Rattle.bench_cli.proofs.Runs.{Run-more, transcript-more, lines-more, refused-more, no_memory-more}
 
@@ -32,7 +33,7 @@ parts-newline given held read t after e = append_assoc given held read ∙ (ap (
 parts-end : (given held read t after : List ℕ) → held ++ read ≡ t → after ≡ [] → (given ++ held) ++ read ≡ (given ++ t) ++ after
 parts-end given held read t after e z = append_assoc given held read ∙ (ap (λ u. given ++ u) e ∙ rw z (sym (append-nil (given ++ t))))
 
-stepped-by : (es : List Exchange) (t₀ t₁ t₂ : Telling) (r r' : Reading) (s s' : State) (answer : Answer) (reply : Reply)
+stepped-by : (es : List Exchange) (t₀ t₁ t₂ : Telling) (r r' : Reading) (s s' : State) (answer : LineAnswer) (reply : Reply)
     (p : ReadSofar es t₀ t₁ r s) (q : Steps r r' s s' t₁ t₂ (Ok answer)) → IsReply s' answer reply
     → ((r.held ++ q.read ≡ q.answer.1.line ++ 10 ∷ r'.held) × (r'.has_ended ≡ false))
     ⊎ ((r.held ++ q.read ≡ q.answer.1.line) × (q.answer.1.line ≢ []) × (r'.held ≡ []) × (r'.has_ended ≡ true) × IsAtEnd t₂.bytes)
@@ -79,7 +80,7 @@ stepped-by es t₀ t₁ t₂ r r' s s' answer reply p q is (inr k) =
     )
 
 -- a line was read and answered
-pub stepped : (es : List Exchange) (t₀ t₁ t₂ : Telling) (r r' : Reading) (s s' : State) (answer : Answer) (reply : Reply)
+pub stepped : (es : List Exchange) (t₀ t₁ t₂ : Telling) (r r' : Reading) (s s' : State) (answer : LineAnswer) (reply : Reply)
     (p : ReadSofar es t₀ t₁ r s) (q : Steps r r' s s' t₁ t₂ (Ok answer)) → IsReply s' answer reply
     → (n : ReadSofar (es ++ record { line = q.answer.1.line; reply = reply } ∷ []) t₀ t₂ r' s') × (length p.given < length n.given)
 stepped es t₀ t₁ t₂ r r' s s' answer reply p q is = stepped-by es t₀ t₁ t₂ r r' s s' answer reply p q is q.answer.1.begins.cut

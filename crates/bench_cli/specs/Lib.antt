@@ -1,13 +1,8 @@
 pub mod Statuses
 pub mod Words
 pub mod Replies
-pub mod Answers
-pub mod Texts
-pub mod Labels
-pub mod Presents
-pub mod Checks
-pub mod State
-pub mod Serving
+pub mod Runs
+pub mod Answering
 pub mod Session
 pub mod Program
 pub mod Causes

@@ -1,43 +1,6 @@
--- What lines are answered.
-use Rattle.std.specs.Prelude.{ℕ, Bool, true, false, ◌||◌, List, [], ◌∷◌, ◌++◌, codes, decimal}
-use Rattle.netlist_text.specs.Faults as faults
-use Rattle.netlist_text.specs.Misfits as misfits
-use Rattle.bench_cli.specs.declared.replies.Refusal.{Refusal}
-use Rattle.bench_cli.specs.declared.replies.Refusal.TheVariants.{LineTooLong, Unreadable, Misfit, TooManyDiagnoses, BadCount, NotBuilt}
-
--- the reply to a line: text, a refusal, or the refusal for want of memory
-pub data Reply : Type 0 where
-  Text : List ℕ → Reply
-  Refused : Refusal → Reply
-  NoMemory : Reply
-
--- the number of a refusal
-abbrev pub number_of : Refusal → ℕ
-number_of LineTooLong = 10
-number_of (Unreadable fault) = faults.number_of fault
-number_of (Misfit misfit) = misfits.number_of misfit
-number_of TooManyDiagnoses = 45
-number_of BadCount = 47
-number_of NotBuilt = 50
-
--- its text
-abbrev pub text_of_refusal : Refusal → List ℕ
-text_of_refusal LineTooLong = codes "line too long"
-text_of_refusal (Unreadable fault) = faults.text_of fault
-text_of_refusal (Misfit misfit) = misfits.text_of misfit
-text_of_refusal TooManyDiagnoses = codes "too many diagnoses"
-text_of_refusal BadCount = codes "bad count"
-text_of_refusal NotBuilt = codes "not built"
-
--- the line of a refusal with this number and this text
-abbrev pub refusal_line : ℕ → List ℕ → List ℕ
-refusal_line number text = codes "no " ++ decimal number ++ codes " " ++ text ++ codes "\n"
-
--- the bytes of a reply
-abbrev pub text_of : Reply → List ℕ
-text_of (Text text) = text
-text_of (Refused refusal) = refusal_line (number_of refusal) (text_of_refusal refusal)
-text_of NoMemory = refusal_line 90 (codes "no memory")
+-- Lines with their replies.
+use Rattle.std.specs.Prelude.{ℕ, Bool, true, false, ◌||◌, List, [], ◌∷◌, ◌++◌}
+use Rattle.session_undo.specs.Replies.{Reply, Text, Refused, NoMemory, text_of}
 
 -- a line and its reply
 pub record Exchange : Type 0 where

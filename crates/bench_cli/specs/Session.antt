@@ -4,8 +4,10 @@ use Rattle.std.specs.Io.KnownBytes.{Appends, Keeps}
 use Rattle.bench_io.specs.Lines.{lines_of, whole_lines_of, session_lines}
 use Rattle.bench_io.specs.Streams.{Telling}
 use Rattle.bench_io.specs.declared.limits.TheConstants.{MOST_BYTES, BUFFER_ROOM}
-use Rattle.bench_cli.specs.Replies.{Exchange, text_of, transcript, lines_of_exchanges, has_refused, has_no_memory}
-use Rattle.bench_cli.specs.State.{State, empty, Run}
+use Rattle.session_undo.specs.Replies.{text_of}
+use Rattle.bench_cli.specs.Replies.{Exchange, transcript, lines_of_exchanges, has_refused, has_no_memory}
+use Rattle.session_undo.specs.Presents.{State, empty}
+use Rattle.bench_cli.specs.Runs.{Run}
 use Rattle.bench_cli.specs.Statuses.{status_by}
 use Rattle.bench_cli.specs.declared.Status.{Status}
 use Rattle.bench_cli.specs.declared.Status.TheVariants.{Done, SomeRefused, Usage, ReadFault, WriteFault, TooMuch, NoMemory}

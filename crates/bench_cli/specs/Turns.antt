@@ -6,13 +6,16 @@ use Rattle.bench_io.specs.Lines.{HasNoNewline, lines_of, whole_lines_of}
 use Rattle.bench_io.specs.Reading.{Reading, Begins}
 use Rattle.bench_io.specs.Streams.{Telling}
 use Rattle.bench_io.specs.declared.limits.TheConstants.{MOST_BYTES, BUFFER_ROOM}
-use Rattle.bench_cli.specs.Answers.{IsReply, IsWritable}
-use Rattle.bench_cli.specs.Replies.{Exchange, Reply, is_refused, is_no_memory, lines_of_exchanges, has_refused, has_no_memory, transcript}
-use Rattle.bench_cli.specs.State.{State, Takes, Run, empty}
+use Rattle.bench_cli.specs.Answering.{IsReply, IsWritable}
+use Rattle.session_undo.specs.Replies.{Reply}
+use Rattle.bench_cli.specs.Replies.{Exchange, is_refused, is_no_memory, lines_of_exchanges, has_refused, has_no_memory, transcript}
+use Rattle.session_undo.specs.Presents.{State, empty}
+use Rattle.session_undo.specs.Steps.{Takes}
+use Rattle.bench_cli.specs.Runs.{Run}
 use Rattle.bench_cli.specs.Statuses.{status_by}
 use Rattle.bench_cli.specs.declared.Status.{Status}
 use Rattle.bench_cli.specs.declared.Status.TheVariants.{ReadFault, TooMuch}
-use Rattle.bench_cli.specs.declared.replies.Answer.{Answer}
+use Rattle.bench_cli.specs.declared.turn.LineAnswer.{LineAnswer}
 use Rattle.bench_cli.specs.declared.session.Ending.{Ending}
 use Rattle.bench_cli.specs.declared.session.Ending.TheVariants as ending
 use Rattle.bench_cli.specs.declared.session.Tally.{Tally}
@@ -32,13 +35,13 @@ status_at ending.Failed t = ReadFault
 status_at ending.TooMuch t = TooMuch
 
 -- A line was read and answered, by each reply that the answer stands for. The bytes are those that were held or taken.
-pub record Answered (bytes : List ℕ) (reader : Reading) (before now : State) (left : Option (List ℕ)) (answer : Answer) : Type 0 where
+pub record Answered (bytes : List ℕ) (reader : Reading) (before now : State) (left : Option (List ℕ)) (answer : LineAnswer) : Type 0 where
   pub line : List ℕ
   pub begins : Begins bytes line left reader
   pub takes : (reply : Reply) → IsReply now answer reply → Takes before line reply now
 
 -- what each answer of a step says
-abbrev pub StepAnswers : (bytes : List ℕ) (first reader : Reading) (before now : State) (left : Option (List ℕ)) → Result Answer Ending → Type 0
+abbrev pub StepAnswers : (bytes : List ℕ) (first reader : Reading) (before now : State) (left : Option (List ℕ)) → Result LineAnswer Ending → Type 0
 StepAnswers bytes first reader before now left (Ok answer) =
     (first.has_ended ≡ false) × Answered bytes reader before now left answer × IsWritable now answer
 StepAnswers bytes first reader before now left (Err ending.End) =
@@ -49,14 +52,14 @@ StepAnswers bytes first reader before now left (Err ending.TooMuch) =
     (first.has_ended ≡ false) × (front : List ℕ) × (last : ℕ) × (bytes ≡ front ++ last ∷ []) × HasNoNewline front × (reader.taken ≡ MOST_BYTES + 1)
 
 -- The count rises where a read failed, and stays at each other answer.
-abbrev pub CountsEnding : ℕ → ℕ → Result Answer Ending → Type 0
+abbrev pub CountsEnding : ℕ → ℕ → Result LineAnswer Ending → Type 0
 CountsEnding before now (Ok answer) = now ≡ before
 CountsEnding before now (Err ending.End) = now ≡ before
 CountsEnding before now (Err ending.Failed) = Rose before now
 CountsEnding before now (Err ending.TooMuch) = now ≡ before
 
 -- A line was read and its step was taken, or the session ends.
-pub record Steps (first reader : Reading) (before now : State) (source_before source_now : Telling) (result : Result Answer Ending) : Type 0 where
+pub record Steps (first reader : Reading) (before now : State) (source_before source_now : Telling) (result : Result LineAnswer Ending) : Type 0 where
   pub read : List ℕ
   pub consumed : Consumes source_before.bytes source_now.bytes read
   pub taken : reader.taken ≡ first.taken + length read

@@ -1,17 +1,28 @@
 -- The words of the command line.
-use Rattle.std.specs.Prelude.{◌≡◌, ℕ, List, [], ◌∷◌, ◌++◌, codes, map, Option, String}
+use Rattle.std.specs.Prelude.{◌≡◌, ◌⊎◌, ℕ, true, List, [], ◌∷◌, ◌++◌, codes, map, Option, String}
 use Rattle.std.specs.Io.KnownBytes.{Appends}
 use Rattle.std.specs.String.{string_bytes}
+use Rattle.netlist_text.specs.Words.{is_number}
 use Rattle.bench_cli.specs.declared.Status.{Status}
 use Rattle.bench_cli.specs.declared.Status.TheVariants.{Usage, WriteFault}
 
+-- the words are `run`
+abbrev pub IsPlainRun : {Z : Type 0} → List (String Z) → Type 0
+IsPlainRun words = map string_bytes words ≡ codes "run" ∷ []
+
+-- the words are `run order` and a number
+pub record IsOrderedRun {Z : Type 0} (words : List (String Z)) : Type 0 where
+  pub digits : List ℕ
+  pub are : map string_bytes words ≡ codes "run" ∷ codes "order" ∷ digits ∷ []
+  pub number : is_number digits ≡ true
+
 -- the words ask for a session
 abbrev pub IsRun : {Z : Type 0} → List (String Z) → Type 0
-IsRun words = map string_bytes words ≡ codes "run" ∷ []
+IsRun words = IsPlainRun words ⊎ IsOrderedRun words
 
 -- the line that says which words there are
 abbrev pub usage_line : List ℕ
-usage_line = codes "usage: gde run | run order N | make N SEED\n"
+usage_line = codes "usage: gde run | run order N | make N SEED | audit\n"
 
 -- The usage line was written, or a front of it where a write failed.
 abbrev pub TellsUsage : Status → (before now : Option (List ℕ)) → Type 0

@@ -5,21 +5,23 @@ use Rattle.circuit_model.specs.Present.{PresentView}
 use Rattle.netlist_text.specs.Checks as placing
 use Rattle.netlist_text.specs.Misfits as misfits
 use Rattle.std.proofs.lemmas.Bool.{both_ways}
-use Rattle.netlist_text.specs.Found.{IsMade, IsRefused}
+use Rattle.netlist_text.specs.Found.{IsRefused}
 use Rattle.netlist_text.specs.Placing.{takes_memory, adds_part, IsOfPresent}
 use Rattle.netlist_text.specs.declared.misfits.Misfit.{Misfit}
 use Rattle.netlist_text.specs.declared.misfits.Misfit.TheVariants as misfit
 use Rattle.netlist_text.specs.declared.requests.Change.{Change}
 use Rattle.netlist_text.specs.declared.requests.Change.TheVariants.{Net, Add, Measure, Cycles, Retract, Undo, Cost, Stuck, Acts, Define, Pin, Inside, UseBlock}
 use Rattle.netlist_text.specs.declared.requests.Request.TheVariants as request
-use Rattle.session_undo.specs.Checks.{first_refusal, of_each, checks_of_change}
-use Rattle.session_undo.specs.Presents.{State}
-use Rattle.session_undo.specs.Serving.{Changes, IsAnswerTo, RemembersNothing}
+use Rattle.netlist_text.specs.Placing.{changed}
+use Rattle.standing_changes.specs.Load.{IsWithinLoad}
+use Rattle.session_undo.specs.Checks.{first_refusal, of_each, checks_of, checks_of_change, late_checks_of, checks_of_load, HasNoCause}
+use Rattle.session_undo.specs.Presents.{State, after, with_present}
+use Rattle.session_undo.specs.Serving.{IsStopFor, IsStoppedBy, RemembersNothing}
 use Rattle.session_undo.specs.Steps.{wants_memory}
-use Rattle.session_undo.specs.declared.answers.Answer.{Answer}
-use Rattle.session_undo.specs.declared.answers.Answer.TheVariants as answer
 use Rattle.session_undo.specs.declared.refusals.Refusal.{Refusal}
 use Rattle.session_undo.specs.declared.refusals.Refusal.TheVariants as refusal
+use Rattle.session_undo.specs.declared.refusals.Stop.{Stop}
+use Rattle.session_undo.specs.declared.refusals.Stop.TheVariants as stop
 
 one_more : (b : Bool) (m : Misfit) (o : Option Misfit) (p : Option Refusal) → p ≡ option_map refusal.Misfit o → (if b then Some (refusal.Misfit m) else p) ≡ option_map refusal.Misfit (if b then Some m else o)
 one_more true m o p e = refl
@@ -94,108 +96,100 @@ never_memory s (Measure net cycle value) e = both_ways (nat_lt 90 90) refl (firs
 never_memory s (Retract net cycle) e = both_ways (nat_lt 90 90) refl (first_is IsNumbered (placing.checks_of_change s (Retract net cycle)) misfit.OutOfMemory (refl, (refl, (refl, tt))) e)
 never_memory s Undo e = both_ways (nat_lt 90 90) refl (first_is IsNumbered (placing.checks_of_change s Undo) misfit.OutOfMemory tt e)
 
--- the state with this present alone
-abbrev pub state_of : PresentView → State
-state_of s = record { present = s; earlier = [] }
+-- the checks of a change of a present are those on the present
+pub of_present : (s : State) (change : Change) → IsOfPresent change → checks_of_change s change ≡ of_each (placing.checks_of_change s.present change)
+of_present s (Cycles count) h = refl
+of_present s (Net name width) h = refl
+of_present s (Add name kind nets) h = refl
+of_present s (Cost name cost) h = refl
+of_present s (Stuck name value cost) h = refl
+of_present s (Acts name kind cost) h = refl
+of_present s (Define block) h = refl
+of_present s (Pin block name width) h = refl
+of_present s (Inside block name kind nets) h = refl
+of_present s (UseBlock block name nets) h = refl
+of_present s (Measure net cycle value) h = refl
+of_present s (Retract net cycle) h = refl
+of_present s Undo h = absurd h
 
-module _ (s : PresentView) (change : Change) (built : checks_of_change (state_of s) change ≡ of_each (placing.checks_of_change s change)) where
-  -- a change that is made is accepted
-  pub accepted : (t : PresentView) → IsMade s change t → Changes (state_of s) change answer.Accepted (state_of t)
-  accepted t h = (ap first_refusal built ∙ none_first (placing.checks_of_change s change) h.free, ap state_of h.made)
+-- it may find no memory where the present may
+pub wants : (s : State) (change : Change) → IsOfPresent change → takes_memory change ≡ true → wants_memory s (request.Change change) ≡ true
+wants s (Cycles count) h e = cc
+wants s (Net name width) h e = refl
+wants s (Add name kind nets) h e = refl
+wants s (Cost name cost) h e = cc
+wants s (Stuck name value cost) h e = refl
+wants s (Acts name kind cost) h e = refl
+wants s (Define block) h e = refl
+wants s (Pin block name width) h e = refl
+wants s (Inside block name kind nets) h e = refl
+wants s (UseBlock block name nets) h e = refl
+wants s (Measure net cycle value) h e = cc
+wants s (Retract net cycle) h e = cc
+wants s Undo h e = absurd h
 
-  -- no check applies, and memory was wanting
-  pub wanting : wants_memory (state_of s) (request.Change change) ≡ true → placing.first_misfit (placing.checks_of_change s change) ≡ None → (t : PresentView) → t ≡ s → Changes (state_of s) change answer.NoMemory (state_of t)
-  wanting wants free t same = (ap first_refusal built ∙ none_first (placing.checks_of_change s change) free, wants, ap state_of same)
+-- and the old present goes before the earlier ones
+pub goes_on : (s : State) (change : Change) → IsOfPresent change → after s change ≡ with_present (changed s.present change) s
+goes_on s (Cycles count) h = refl
+goes_on s (Net name width) h = refl
+goes_on s (Add name kind nets) h = refl
+goes_on s (Cost name cost) h = refl
+goes_on s (Stuck name value cost) h = refl
+goes_on s (Acts name kind cost) h = refl
+goes_on s (Define block) h = refl
+goes_on s (Pin block name width) h = refl
+goes_on s (Inside block name kind nets) h = refl
+goes_on s (UseBlock block name nets) h = refl
+goes_on s (Measure net cycle value) h = refl
+goes_on s (Retract net cycle) h = refl
+goes_on s Undo h = absurd h
 
-  -- a check refuses
-  pub refused_by : (m : Misfit) → placing.first_misfit (placing.checks_of_change s change) ≡ Some m → Changes (state_of s) change (answer.Refused (refusal.Misfit m)) (state_of s)
-  refused_by m e = (ap first_refusal built ∙ some_first (placing.checks_of_change s change) m e, refl)
+-- what alters neither what stands nor the load has no check after memory was found
+pub no_late : (s : State) (change : Change) → RemembersNothing change → HasNoCause (late_checks_of s (request.Change change))
+no_late s (Cycles count) h = tt
+no_late s (Net name width) h = tt
+no_late s (Add name kind nets) h = absurd h
+no_late s (Cost name cost) h = tt
+no_late s (Stuck name value cost) h = tt
+no_late s (Acts name kind cost) h = tt
+no_late s (Define block) h = tt
+no_late s (Pin block name width) h = tt
+no_late s (Inside block name kind nets) h = tt
+no_late s (UseBlock block name nets) h = absurd h
+no_late s (Measure net cycle value) h = absurd h
+no_late s (Retract net cycle) h = absurd h
+no_late s Undo h = absurd h
 
-  -- a misfit is answered by what it is
-  pub refused : (takes_memory change ≡ true → wants_memory (state_of s) (request.Change change) ≡ true) → (m : Misfit) (t : PresentView) → IsRefused s change m t → (a : Answer) → IsAnswerTo m a → Changes (state_of s) change a (state_of t)
-  refused wants m t h answer.Nothing is = absurd is
-  refused wants m t h answer.Accepted is = absurd is
-  refused wants m t h (answer.Label cell) is = absurd is
-  refused wants m t h (answer.Conflicts found) is = absurd is
-  refused wants m t h (answer.Diagnoses found) is = absurd is
-  refused wants m t h answer.Show is = absurd is
-  refused wants m t h (answer.Refused r) is =
-      let first : placing.first_misfit (placing.checks_of_change s change) ≡ Some m = elim h.by as (λ _. placing.first_misfit (placing.checks_of_change s change) ≡ Some m) [ inl e ↦ e | inr none ↦ absurd (is.0 none.misfit_is) ] in
-      (ap first_refusal built ∙ (some_first (placing.checks_of_change s change) m first ∙ ap (λ (x : Refusal). Some x) (sym is.1)), ap state_of h.same)
-  refused wants m t h answer.NoMemory is = elim h.by as (λ _. Changes (state_of s) change answer.NoMemory (state_of t)) [
-    | inl e ↦ absurd (never_memory s change (e ∙ ap (λ (x : Misfit). Some x) is))
-    | inr none ↦ wanting (wants none.takes) none.free t h.same
+-- one that adds a component has the check of the load
+pub load_checked : (s : State) (change : Change) → adds_part change ≡ true → late_checks_of s (request.Change change) ≡ checks_of_load s change
+load_checked s (Cycles count) e = cc
+load_checked s (Net name width) e = cc
+load_checked s (Add name kind nets) e = refl
+load_checked s (Cost name cost) e = cc
+load_checked s (Stuck name value cost) e = cc
+load_checked s (Acts name kind cost) e = cc
+load_checked s (Define block) e = cc
+load_checked s (Pin block name width) e = cc
+load_checked s (Inside block name kind nets) e = cc
+load_checked s (UseBlock block name nets) e = refl
+load_checked s (Measure net cycle value) e = cc
+load_checked s (Retract net cycle) e = cc
+load_checked s Undo e = cc
+
+pub one_cause : (s : State) (change : Change) → IsWithinLoad (changed s.present change) → HasNoCause (checks_of_load s change)
+one_cause s change within = (within, tt)
+
+module _ (s : State) (change : Change) (h : IsOfPresent change) where
+  -- no check on the present applies
+  pub free_of : placing.first_misfit (placing.checks_of_change s.present change) ≡ None → first_refusal (checks_of s (request.Change change)) ≡ None
+  free_of free = ap first_refusal (of_present s change h) ∙ none_first (placing.checks_of_change s.present change) free
+
+  -- what does not go with the present stops the change
+  pub stopped : (m : Misfit) (t : PresentView) → IsRefused s.present change m t → (a : Stop) → IsStopFor m a → IsStoppedBy s (request.Change change) a
+  stopped m t r (stop.Refused refused) is =
+      let first : placing.first_misfit (placing.checks_of_change s.present change) ≡ Some m = elim r.by as (λ _. placing.first_misfit (placing.checks_of_change s.present change) ≡ Some m) [ inl e ↦ e | inr none ↦ absurd (is.0 none.misfit_is) ] in
+      inl (ap first_refusal (of_present s change h) ∙ (some_first (placing.checks_of_change s.present change) m first ∙ ap (λ (x : Refusal). Some x) (sym is.1)))
+  stopped m t r stop.OutOfMemory is = elim r.by as (λ _. IsStoppedBy s (request.Change change) stop.OutOfMemory) [
+    | inl e ↦ absurd (never_memory s.present change (e ∙ ap (λ (x : Misfit). Some x) is))
+    | inr none ↦ record { free = free_of none.free; wants = wants s change h none.takes }
   ]
-
--- the checks of each change that is built, and whether it may want memory: one after which nothing more is remembered
-pub alone_built : (s : PresentView) (change : Change) → RemembersNothing change → checks_of_change (state_of s) change ≡ of_each (placing.checks_of_change s change)
-alone_built s (Cycles count) h = refl
-alone_built s (Net name width) h = refl
-alone_built s (Add name kind nets) h = absurd h
-alone_built s (Cost name cost) h = refl
-alone_built s (Stuck name value cost) h = refl
-alone_built s (Acts name kind cost) h = refl
-alone_built s (Define block) h = refl
-alone_built s (Pin block name width) h = refl
-alone_built s (Inside block name kind nets) h = refl
-alone_built s (UseBlock block name nets) h = absurd h
-alone_built s (Measure net cycle value) h = absurd h
-alone_built s (Retract net cycle) h = absurd h
-alone_built s Undo h = absurd h
-
-pub alone_wants : (s : PresentView) (change : Change) → RemembersNothing change → takes_memory change ≡ true → wants_memory (state_of s) (request.Change change) ≡ true
-alone_wants s (Cycles count) h e = cc
-alone_wants s (Net name width) h e = refl
-alone_wants s (Add name kind nets) h e = absurd h
-alone_wants s (Cost name cost) h e = cc
-alone_wants s (Stuck name value cost) h e = refl
-alone_wants s (Acts name kind cost) h e = refl
-alone_wants s (Define block) h e = refl
-alone_wants s (Pin block name width) h e = refl
-alone_wants s (Inside block name kind nets) h e = refl
-alone_wants s (UseBlock block name nets) h e = absurd h
-alone_wants s (Measure net cycle value) h e = absurd h
-alone_wants s (Retract net cycle) h e = absurd h
-alone_wants s Undo h e = absurd h
-
--- one that adds a component
-pub adding_built : (s : PresentView) (change : Change) → IsOfPresent change → adds_part change ≡ true → checks_of_change (state_of s) change ≡ of_each (placing.checks_of_change s change)
-adding_built s (Cycles count) h e = cc
-adding_built s (Net name width) h e = cc
-adding_built s (Add name kind nets) h e = refl
-adding_built s (Cost name cost) h e = cc
-adding_built s (Stuck name value cost) h e = cc
-adding_built s (Acts name kind cost) h e = cc
-adding_built s (Define block) h e = cc
-adding_built s (Pin block name width) h e = cc
-adding_built s (Inside block name kind nets) h e = cc
-adding_built s (UseBlock block name nets) h e = refl
-adding_built s (Measure net cycle value) h e = cc
-adding_built s (Retract net cycle) h e = cc
-adding_built s Undo h e = cc
-
-pub adding_wants : (s : PresentView) (change : Change) → IsOfPresent change → adds_part change ≡ true → takes_memory change ≡ true → wants_memory (state_of s) (request.Change change) ≡ true
-adding_wants s (Cycles count) h e t = cc
-adding_wants s (Net name width) h e t = cc
-adding_wants s (Add name kind nets) h e t = refl
-adding_wants s (Cost name cost) h e t = cc
-adding_wants s (Stuck name value cost) h e t = cc
-adding_wants s (Acts name kind cost) h e t = cc
-adding_wants s (Define block) h e t = cc
-adding_wants s (Pin block name width) h e t = cc
-adding_wants s (Inside block name kind nets) h e t = cc
-adding_wants s (UseBlock block name nets) h e t = refl
-adding_wants s (Measure net cycle value) h e t = cc
-adding_wants s (Retract net cycle) h e t = cc
-adding_wants s Undo h e t = cc
-
--- and a measurement
-module _ (s : PresentView) (net : List ℕ) (cycle value : ℕ) where
-  abbrev reading : Change
-  reading = Measure net cycle value
-
-  pub measuring_built : (change : Change) → change ≡ reading → checks_of_change (state_of s) change ≡ of_each (placing.checks_of_change s change)
-  measuring_built change e = rw e refl
-
-  pub measuring_wants : (change : Change) → change ≡ reading → wants_memory (state_of s) (request.Change change) ≡ true
-  measuring_wants change e = rw e refl
