@@ -3,6 +3,7 @@ pub mod Words
 pub mod Replies
 pub mod Runs
 pub mod Answering
+pub mod Serving
 pub mod Session
 pub mod Program
 pub mod Causes

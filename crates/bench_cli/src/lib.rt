@@ -2,22 +2,19 @@
 //! its own, over `exit_number`.
 #![tactic(auto)]
 
-ghost use Rattle.std.specs.Prelude.{◌≡◌, ◌↔◌, IsTrue};
+ghost use Rattle.std.specs.Prelude.{◌≡◌};
 ghost use Rattle.bench_cli.specs.Program.{Performs, Exits, HasWords, AsksForSession};
 ghost use Rattle.bench_cli.specs.Statuses.{number_of};
 ghost use Rattle.bench_cli.specs.Words.{IsRun};
 
-mod changes;
-mod labels;
-mod questions;
-mod remembering;
-mod replies;
 mod session;
-mod state;
-mod texts;
+mod turn;
+mod words;
 mod writing;
 
+use crate::words::{is_ordered_run, is_plain_run, picker_of};
 use bench_io::{Sink, Source, write_all};
+use propagation_agenda::Oldest;
 use std::alloc::Global;
 
 /// The number that the program exits with where the words of the command line are not handed out.
@@ -71,13 +68,8 @@ impl Status {
     }
 }
 
-fn is_run(words: &[String]) -> bool
-    ensures { IsTrue result ↔ IsRun words.now }
-{
-    words.len() == 1 && words[0].as_str() == "run"
-}
-
-/// Runs the program. `words` are those of the command line without the program's own name.
+/// Runs the program. `words` are those of the command line without the program's own name. In whatever order labels are
+/// worked out, with `run order N`, the replies are the same.
 ///
 /// What no clause says: that memory is found.
 pub fn gde<S: Source, K: Sink>(
@@ -89,10 +81,13 @@ pub fn gde<S: Source, K: Sink>(
     ensures performs { Performs words.now result (S.told source.old) (S.told source.new) (K.told sink.old) (K.told sink.new) }
     ensures unread { (IsRun words.now → ⊥) → source.new ≡ source.old }
 {
-    if is_run(words) {
-        return session::run(alloc, source, sink);
+    if is_plain_run(words) {
+        return session::run(alloc, &mut Oldest, source, sink);
     }
-    match write_all(sink, b"usage: gde run | run order N | make N SEED\n") {
+    if is_ordered_run(words) {
+        return session::run(alloc, &mut picker_of(words), source, sink);
+    }
+    match write_all(sink, b"usage: gde run | run order N | make N SEED | audit\n") {
         Ok(()) => Status::Usage,
         Err(_) => Status::WriteFault,
     }

@@ -4,16 +4,17 @@ ghost use Rattle.bench_io.specs.Causes.{Rose};
 ghost use Rattle.bench_cli.specs.Session.{Session, WhereTold};
 ghost use Rattle.bench_cli.specs.Causes.{TakesTooMuch};
 ghost use Rattle.bench_cli.specs.Turns.{Steps, tally_after, status_of, status_at};
-ghost use Rattle.bench_cli.specs.Answers.{IsReply, IsWritable};
-ghost use Rattle.bench_cli.specs.Replies.{Reply, text_of};
+ghost use Rattle.bench_cli.specs.Answering.{IsReply, IsWritable};
+ghost use Rattle.session_undo.specs.Replies.{Reply, text_of};
 ghost use Rattle.bench_io.specs.Writing.{Writes};
-ghost use Rattle.bench_cli.specs.State.{State};
+ghost use Rattle.session_undo.specs.Presents.{State};
 
 use crate::Status;
-use crate::replies::{Answer, Refusal};
-use crate::state::Bench;
+use crate::turn::{LineAnswer, take};
 use crate::writing::write_answer;
 use bench_io::{Failed, Line, LineReader, ReadStop, Sink, Source};
+use propagation_agenda::Picker;
+use session_undo::{Refusal, Session};
 use std::alloc::Global;
 
 // What was answered so far.
@@ -25,18 +26,13 @@ pub struct Tally {
 
 impl Tally {
     // Takes note of one answer more.
-    fn note(&mut self, answer: &Answer)
+    fn note(&mut self, answer: &LineAnswer)
         ensures { (s : State) (reply : Reply) → IsReply s answer.now reply → self.new ≡ tally_after self.old reply }
     {
         match answer {
-            Answer::Nothing
-            | Answer::Accepted
-            | Answer::Label { .. }
-            | Answer::Conflicts(_)
-            | Answer::Diagnoses(_)
-            | Answer::Show => {}
-            Answer::Refused(_) => self.refused = true,
-            Answer::NoMemory => self.no_memory = true,
+            LineAnswer::Nothing | LineAnswer::Accepted | LineAnswer::Told(_) => {}
+            LineAnswer::Refused(_) => self.refused = true,
+            LineAnswer::NoMemory => self.no_memory = true,
         }
     }
 
@@ -63,17 +59,18 @@ enum Ending {
 }
 
 // Reads a line and takes its step.
-fn step<S: Source>(
+fn step<P: Picker, S: Source>(
     reader: &mut LineReader,
-    bench: &mut Bench,
+    session: &mut Session,
+    picker: &mut P,
     source: &mut S,
-) -> Result<Answer, Ending>
+) -> Result<LineAnswer, Ending>
     requires { reader.old.is_over ≡ false }
-    ensures { Steps reader.old reader.new bench.old bench.new (S.told source.old) (S.told source.new) result }
+    ensures { Steps reader.old reader.new session.old session.new (S.told source.old) (S.told source.new) result }
 {
     match reader.next_line(source) {
-        Ok(Line::Text(line)) => Ok(bench.take(line)),
-        Ok(Line::TooLong) => Ok(Answer::Refused(Refusal::LineTooLong)),
+        Ok(Line::Text(line)) => Ok(take(session, line, picker)),
+        Ok(Line::TooLong) => Ok(LineAnswer::Refused(Refusal::LineTooLong)),
         Ok(Line::End) => Err(Ending::End),
         Err(ReadStop::Failed) => Err(Ending::Failed),
         Err(ReadStop::TooMuch) => Err(Ending::TooMuch),
@@ -83,16 +80,16 @@ fn step<S: Source>(
 // Takes note of the answer, and writes its reply. At `Err` a front of it was written.
 fn reply<K: Sink>(
     tally: &mut Tally,
-    bench: &Bench,
-    answer: Answer,
+    session: &Session,
+    answer: LineAnswer,
     sink: &mut K,
 ) -> Result<(), Failed>
-    requires { IsWritable bench.now answer }
-    ensures { (reply : Reply) × IsReply bench.now answer reply × (tally.new ≡ tally_after tally.old reply)
+    requires { IsWritable session.now answer }
+    ensures { (reply : Reply) × IsReply session.now answer reply × (tally.new ≡ tally_after tally.old reply)
         × Writes (K.told sink.old) (K.told sink.new) result (text_of reply) }
 {
     tally.note(&answer);
-    write_answer(bench, &answer, sink)
+    write_answer(session, &answer, sink)
 }
 
 // The status of a session that ends so.
@@ -106,8 +103,13 @@ fn status_at(ending: Ending, tally: &Tally) -> Status
     }
 }
 
-/// Runs the session that is read.
-pub fn run<S: Source, K: Sink>(alloc: Global, source: &mut S, sink: &mut K) -> Status
+/// Runs the session that is read. Whatever the picker chooses, the replies are the same.
+pub fn run<P: Picker, S: Source, K: Sink>(
+    alloc: Global,
+    picker: &mut P,
+    source: &mut S,
+    sink: &mut K,
+) -> Status
     ensures session { Session result (S.told source.old) (S.told source.new) (K.told sink.old) (K.told sink.new) }
 
     // A read or a write failed just where the status says so.
@@ -125,8 +127,8 @@ pub fn run<S: Source, K: Sink>(alloc: Global, source: &mut S, sink: &mut K) -> S
         Ok(reader) => reader,
         Err(_) => return Status::NoMemory,
     };
-    let mut bench = match Bench::open(alloc) {
-        Ok(bench) => bench,
+    let mut session = match Session::open(alloc) {
+        Ok(session) => session,
         Err(_) => return Status::NoMemory,
     };
     let mut tally = Tally {
@@ -134,9 +136,9 @@ pub fn run<S: Source, K: Sink>(alloc: Global, source: &mut S, sink: &mut K) -> S
         no_memory: false,
     };
     loop {
-        match step(&mut reader, &mut bench, source) {
+        match step(&mut reader, &mut session, picker, source) {
             Ok(answer) => {
-                if let Err(_) = reply(&mut tally, &bench, answer, sink) {
+                if let Err(_) = reply(&mut tally, &session, answer, sink) {
                     return Status::WriteFault;
                 }
             }

@@ -1,11 +1,12 @@
 // What a line is answered, and what it does to a session.
-ghost use Rattle.std.specs.Prelude.{◌≤◌, length};
+ghost use Rattle.std.specs.Prelude.{◌≡◌, ◌≤◌, length};
 ghost use Rattle.bench_io.specs.declared.limits.TheConstants.{LONGEST_LINE};
-ghost use Rattle.netlist_text.specs.Grammar.{AsksPadded};
+ghost use Rattle.netlist_text.specs.Grammar.{AsksPadded, IsPadded};
+ghost use Rattle.netlist_text.specs.declared.requests.Request.TheVariants as request;
 ghost use Rattle.session_undo.specs.Replies.{Reply};
 ghost use Rattle.session_undo.specs.Steps.{Takes};
 ghost use Rattle.bench_cli.specs.Answering.{IsReply, IsWritable};
-ghost use Rattle.bench_cli.specs.Turns.{Serves};
+ghost use Rattle.bench_cli.specs.Serving.{Serves, answer_for};
 
 use netlist_text::{Change, Query, Request, read_line};
 use propagation_agenda::Picker;
@@ -28,7 +29,7 @@ pub enum LineAnswer {
 
 // What a line is answered that was stopped.
 fn stopped(stop: Stop) -> LineAnswer
-    ensures { IsOfStop stop result }
+    ensures { result ≡ answer_for stop }
 {
     match stop {
         Stop::Refused(refusal) => LineAnswer::Refused(refusal),

@@ -33,3 +33,10 @@ fn are_ordered(run: &String, order: &String, number: &String) -> bool
 {
     is_word(run, b"run") && is_word(order, b"order") && is_number(number.as_bytes())
 }
+
+/// The picker that `run order` and a number ask for: the words of a generator with this seed.
+pub fn picker_of(words: &[String]) -> Seeded
+    requires { IsOrderedRun words.now }
+{
+    Seeded::new(number_of(words[2].as_bytes()))
+}

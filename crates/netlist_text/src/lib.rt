@@ -31,3 +31,4 @@ pub use name_list::NameList;
 pub use placing::place;
 pub use requests::{Change, Query, Request};
 pub use show::{put_cell, write_present};
+pub use words::{is_number, number_of};
