@@ -1,0 +1,4 @@
+pub mod Undoing
+pub mod Earlier
+pub mod Kept
+pub mod Laws
