@@ -1,0 +1,5 @@
+use Rattle.standing_changes.proofs.Loads as lemmas
+use Rattle.standing_changes.proofs.laws.loads_are_the_presents.Goals as goal
+
+pub returns : goal.returns
+returns c = lemmas.loads_are_the_presents
