@@ -61,6 +61,7 @@ impl History {
     pub fn push(&mut self, undoing: Undoing) -> Option<Undoing>
         ensures kept { self.new ≡ take MOST_EARLIER (undoing ∷ self.old) }
         ensures dropped { result ≡ slice_get (undoing ∷ self.old) MOST_EARLIER }
+        ensures fitted { length self.old ≤ MOST_EARLIER }
         ensures most { length self.new ≤ MOST_EARLIER }
     {
         self.undoings.push_front(undoing)

@@ -1,6 +1,6 @@
 // What takes a change of a present back.
 ghost use Rattle.std.specs.Prelude.{◌≡◌, ◌<◌, IfSome, length};
-ghost use Rattle.circuit_model.specs.Present.{part_named};
+ghost use Rattle.circuit_model.specs.Present.{IsLawful, part_named};
 ghost use Rattle.netlist_text.specs.Lookups.{place_of, part_of, block_place};
 ghost use Rattle.present_history.specs.Earlier.{retracted_by};
 ghost use Rattle.present_history.specs.Undoing.{undone, MayUndo, cost_of, cycle_in, cell_in, reading_there};
@@ -41,7 +41,15 @@ impl Undoing {
     {
         match self {
             Undoing::Retracted { fact } => Some(fact),
-            _ => None,
+            Undoing::Cycles { .. }
+            | Undoing::Net
+            | Undoing::Part
+            | Undoing::Cost { .. }
+            | Undoing::Mode
+            | Undoing::Block
+            | Undoing::Pin { .. }
+            | Undoing::Inner { .. }
+            | Undoing::Measured { .. } => None,
         }
     }
 }
@@ -128,12 +136,12 @@ fn place_of_block(present: &Present, name: &Name) -> u16
 /// What takes the change back, from the present before it. It means nothing for a change that a check refuses. It takes no
 /// memory.
 pub fn undoing_of(present: &Present, change: &Change) -> Undoing
-    ensures { result ≡ spec.undoing_of present.now change.now }
+    ensures value { result ≡ spec.undoing_of present.now change.now }
+    ensures lawful { IsLawful present.now }
 {
+    let cycles = present.cycles();
     match change {
-        Change::Cycles { .. } | Change::Undo => Undoing::Cycles {
-            before: present.cycles(),
-        },
+        Change::Cycles { .. } | Change::Undo => Undoing::Cycles { before: cycles },
         Change::Net { .. } => Undoing::Net,
         Change::Add { .. } | Change::UseBlock { .. } => Undoing::Part,
         Change::Cost { name, .. } => undoing_of_cost(present, name),

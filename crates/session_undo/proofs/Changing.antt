@@ -1,29 +1,34 @@
--- What changes of the present make of what stands.
-use Rattle.std.proofs.Common.{◌≡◌, ℕ, zero, suc, ◌^◌, nat_lt, nat_le, not, Bool, true, false, is_some, cond, List, [], ◌∷◌, length, map, Option, Some, None, IsSome, refl, sym, ap, subst, ◌∙◌}
-use Rattle.std.proofs.lemmas.Bool.{cond_both, cond-true, cond-false}
+-- What changes make of what stands and is parked.
+use Rattle.std.proofs.Common.{◌≡◌, ◌==◌, ℕ, zero, suc, ◌+◌, ◌-◌, ◌≤◌, ◌<◌, Bool, true, false, not, inl, inr, List, [], ◌∷◌, length, map, take, drop, filter, Option, Some, None, IsSome, refl, sym, ap, subst, ◌∙◌, arith}
+use Rattle.std.specs.List.{slice_get, cons_option}
+use Rattle.std.specs.Option.{option_map_or}
 use Rattle.circuit_model.specs.Closure.{fact}
-use Rattle.circuit_model.specs.declared.limits.TheConstants.{MOST_READINGS}
+use Rattle.circuit_model.specs.declared.limits.TheConstants.{MOST_EARLIER}
 use Rattle.circuit_model.specs.declared.model.Assumption.{Assumption}
-use Rattle.circuit_model.specs.declared.model.Assumption.TheVariants.{Part, Reading}
+use Rattle.circuit_model.specs.declared.model.Assumption.TheVariants.{Part}
 use Rattle.circuit_model.specs.declared.model.Cell.{Cell}
 use Rattle.circuit_model.specs.declared.model.Fact.{Fact}
 use Rattle.circuit_model.specs.declared.present.Component.{Component}
-use Rattle.circuit_model.specs.Present.{PresentView, net_named, width_of, is_cell, is_cell_before, reading_in, with_reading, without_reading, with_standing, without_standing, change_at}
-use Rattle.circuit_model.specs.Stock.{Stock}
-use Rattle.circuit_model.proofs.SameCells.{cell_itself}
-use Rattle.circuit_model.proofs.Readings.{reading_in-with_reading}
-use Rattle.netlist_text.specs.Checks.{check, checks_of_change, first_misfit}
-use Rattle.netlist_text.specs.Found.{IsMade}
-use Rattle.netlist_text.specs.declared.misfits.Misfit.{Misfit}
-use Rattle.netlist_text.specs.declared.misfits.Misfit.TheVariants.{UnknownNet, BadCycle, ValueDoesNotFit, MeasurementsFull, AlreadyMeasured}
-use Rattle.netlist_text.specs.Lookups.{cell_of, place_of}
-use Rattle.netlist_text.specs.Placing.{changed}
+use Rattle.circuit_model.specs.Present.{PresentView, IsLawful, reading_in, with_standing, without_standing, change_at}
 use Rattle.netlist_text.specs.declared.requests.Change.{Change}
 use Rattle.netlist_text.specs.declared.requests.Change.TheVariants.{Net, Add, Measure, Cycles, Retract, Undo, Cost, Stuck, Acts, Define, Pin, Inside, UseBlock}
-use Rattle.standing_view.specs.Standing.{Stands}
-use Rattle.standing_view.specs.View.{StandsFor}
+use Rattle.netlist_text.specs.Found.{IsMade}
+use Rattle.netlist_text.specs.Lookups.{cell_of}
+use Rattle.netlist_text.specs.Placing.{changed, adds_part}
+use Rattle.present_history.specs.declared.undoing.Undoing.{Undoing}
+use Rattle.present_history.specs.declared.undoing.Undoing.TheVariants as back
+use Rattle.present_history.specs.Earlier.{retracted, retracted_by, earlier_of}
+use Rattle.present_history.specs.Undoing.{undoing_of, undone, reading_there}
+use Rattle.present_history.proofs.TakenBack.{undoing_of-measure, undoing_of-retract}
+use Rattle.present_history.proofs.Standing.{may_stand, stands_again}
+use Rattle.environment_sets.specs.Lists.{IsIn}
+use Rattle.standing_view.specs.View.{without_fact}
+use Rattle.standing_changes.specs.Remembered.{StandsWith, StandsRoomy}
+use Rattle.standing_changes.specs.declared.remembered.Remembered.{Remembered}
+use Rattle.standing_changes.proofs.Parked.{parked_alike, same_parts_and_readings_stand}
+use Rattle.session_undo.specs.Remembering.{parked}
 use Rattle.session_undo.specs.Serving.{RemembersNothing}
-use Rattle.session_undo.proofs.Refusing.{first_passes, others_pass}
+use Rattle.session_undo.proofs.Parked as parking
 
 -- what is assumed of a component
 abbrev assumed : Component → Option Assumption
@@ -35,97 +40,135 @@ same_parts change same place [] = refl
 same_parts change same zero (c ∷ cs) = ap (λ (p : _). Some (Part p) ∷ map assumed cs) (same c)
 same_parts change same (suc place) (c ∷ cs) = ap (λ (rest : List (Option Assumption)). assumed c ∷ rest) (same_parts change same place cs)
 
-module _ (S : Stock ℕ) (st : Stands) where
-  -- what stands for a present stands for any other with the same parts and measurements
-  stands_too : (s t : PresentView) → map assumed t.parts ≡ map assumed s.parts → t.readings ≡ s.readings → StandsFor S st s [] → StandsFor S st t []
-  stands_too s t parts readings h = record {
-    components = h.components ∙ sym parts;
-    measured = h.measured ∙ ap (map (λ f. f.cell)) (sym readings);
-    measurements = h.measurements ∙ ap (map (λ f. Some (Reading f))) (sym readings);
-    order = h.order;
-    rising = h.rising;
-    each_parked = h.each_parked;
-    once = h.once;
-    all = h.all;
-  }
+-- what is parked depends on the measurements alone
+abbrev parked_by : List Fact → List Fact → List Fact
+parked_by readings out = filter (λ f. not (option_map_or (λ word. word == f.value) (reading_in readings f.cell) false)) out
 
-  -- a change after which nothing more is remembered
-  pub still_stands : (s : PresentView) (change : Change) → RemembersNothing change → StandsFor S st s [] → StandsFor S st (changed s change) []
-  still_stands s (Cycles count) r h = stands_too s (changed s (Cycles count)) refl refl h
-  still_stands s (Net name width) r h = stands_too s (changed s (Net name width)) refl refl h
-  still_stands s (Cost name cost) r h = stands_too s (changed s (Cost name cost)) (same_parts (λ c. record c { cost = cost }) (λ c. refl) _ s.parts) refl h
-  still_stands s (Add name kind nets) r h = absurd r
-  still_stands s (Stuck name value cost) r h = stands_too s (changed s (Stuck name value cost)) refl refl h
-  still_stands s (Acts name kind cost) r h = stands_too s (changed s (Acts name kind cost)) refl refl h
-  still_stands s (Define block) r h = stands_too s (changed s (Define block)) refl refl h
-  still_stands s (Pin block name width) r h = stands_too s (changed s (Pin block name width)) refl refl h
-  still_stands s (Inside block name kind nets) r h = stands_too s (changed s (Inside block name kind nets)) refl refl h
-  still_stands s (UseBlock block name nets) r h = absurd r
-  still_stands s (Measure net cycle value) r h = absurd r
-  still_stands s (Retract net cycle) r h = absurd r
-  still_stands s Undo r h = absurd r
+same_out : (u : Undoing) (us : List Undoing) → retracted_by u ≡ None → retracted (u ∷ us) ≡ retracted us
+same_out u us e = ap (λ (o : Option Fact). cons_option o (retracted us)) e
 
-later : (t : Bool) (v : ℕ) (o : Option ℕ) → cond t (Some v) o ≡ None → (t ≡ false) × (o ≡ None)
-later true v o h = cc
-later false v o h = (refl, h)
+-- a change that retracts nothing and leaves the measurements leaves what is parked
+pub same_parked : (s t : PresentView) (us : List Undoing) (u : Undoing) → t.readings ≡ s.readings → retracted_by u ≡ None → parked t (u ∷ us) ≡ parked s us
+same_parked s t us u readings none = ap (λ (rs : List Fact). parked_by rs (retracted (u ∷ us))) readings ∙ ap (parked_by s.readings) (same_out u us none)
 
--- a reading that is put in and taken out
-taken_out : (f : Fact) (rs : List Fact) → reading_in rs f.cell ≡ None → without_reading f.cell (with_reading f rs) ≡ rs
-taken_out f [] free = cond-true (is_cell f.cell f.cell) [] (f ∷ []) (cell_itself f.cell)
-taken_out f (g ∷ rs) free =
-    let apart = later (is_cell g.cell f.cell) g.value (reading_in rs f.cell) free in
-    cond_both (is_cell_before f.cell g.cell) (f ∷ g ∷ rs) (g ∷ with_reading f rs) (λ (fs : List Fact). without_reading f.cell fs ≡ g ∷ rs)
-    (λ _. cond-true (is_cell f.cell f.cell) (g ∷ rs) (f ∷ without_reading f.cell (g ∷ rs)) (cell_itself f.cell))
-    (λ _. cond-false (is_cell g.cell f.cell) (with_reading f rs) (g ∷ without_reading f.cell (with_reading f rs)) apart.0 ∙ ap (λ (fs : List Fact). g ∷ fs) (taken_out f rs apart.1))
+pub readings_parked : (s t : PresentView) (us : List Undoing) → t.readings ≡ s.readings → parked t us ≡ parked s us
+readings_parked s t us readings = ap (λ (rs : List Fact). parked_by rs (retracted us)) readings
 
-module _ (s : PresentView) (f : Fact) (free : reading_in s.readings f.cell ≡ None) where
-  -- without it the present is as before
-  pub measured_last : without_standing f.cell (with_standing f s) ≡ s
-  measured_last = ap (λ (rs : List Fact). record s { readings = rs }) (taken_out f s.readings free)
+-- a change after which nothing more and nothing less stands
+pub record LeavesAlone (s t : PresentView) (u : Undoing) : Type 0 where
+  pub parts : map assumed t.parts ≡ map assumed s.parts
+  pub readings : t.readings ≡ s.readings
+  pub nothing : retracted_by u ≡ None
 
-  -- and it is measured
-  pub measured_now : IsSome (reading_in (with_standing f s).readings f.cell)
-  measured_now =
-      let at : reading_in (with_reading f s.readings) f.cell ≡ Some f.value = reading_in-with_reading f s.readings f.cell free ∙ cond-true (is_cell f.cell f.cell) (Some f.value) (reading_in s.readings f.cell) (cell_itself f.cell) in
-      subst (λ (o : Option ℕ). IsSome o) (sym at) refl
+leaves_alone : (s : PresentView) (change : Change) → RemembersNothing change → LeavesAlone s (changed s change) (undoing_of s change)
+leaves_alone s (Cycles count) h = record { parts = refl; readings = refl; nothing = refl }
+leaves_alone s (Net name width) h = record { parts = refl; readings = refl; nothing = refl }
+leaves_alone s (Cost name cost) h = record { parts = same_parts (λ c. record c { cost = cost }) (λ c. refl) _ s.parts; readings = refl; nothing = refl }
+leaves_alone s (Add name kind nets) h = absurd h
+leaves_alone s (Stuck name value cost) h = record { parts = refl; readings = refl; nothing = refl }
+leaves_alone s (Acts name kind cost) h = record { parts = refl; readings = refl; nothing = refl }
+leaves_alone s (Define block) h = record { parts = refl; readings = refl; nothing = refl }
+leaves_alone s (Pin block name width) h = record { parts = refl; readings = refl; nothing = refl }
+leaves_alone s (Inside block name kind nets) h = record { parts = refl; readings = refl; nothing = refl }
+leaves_alone s (UseBlock block name nets) h = absurd h
+leaves_alone s (Measure net cycle value) h = absurd h
+leaves_alone s (Retract net cycle) h = absurd h
+leaves_alone s Undo h = absurd h
 
--- a measurement that was placed
-pub record IsMeasured (s t : PresentView) (f : Fact) : Type 0 where
-  pub free : reading_in s.readings f.cell ≡ None
-  pub made : t ≡ with_standing f s
+module _ (r : Remembered) (s t : PresentView) (us : List Undoing) where
+  -- what stands for the one, with what is parked, stands for the other
+  pub moved : (u : Undoing) → LeavesAlone s t u → StandsWith r s (parked s us) → StandsWith r t (parked t (u ∷ us))
+  moved u l h = let P : List Fact → Type 0 = StandsWith r t in subst P (sym (same_parked s t us u l.readings l.nothing)) (same_parts_and_readings_stand r s t (parked s us) l.parts l.readings h)
 
-nothing_there : (o : Option ℕ) → is_some o ≡ false → o ≡ None
-nothing_there None e = refl
-nothing_there (Some v) e = cc
+  -- and back
+  pub moved_back : (u : Undoing) → LeavesAlone s t u → StandsWith r s (parked s (u ∷ us)) → StandsWith r t (parked t us)
+  moved_back u l h =
+      let P : List Fact → Type 0 = StandsWith r t in
+      let same : parked s (u ∷ us) ≡ parked t us = same_parked t s us u (sym l.readings) l.nothing in
+      subst P same (same_parts_and_readings_stand r s t (parked s (u ∷ us)) l.parts l.readings h)
 
-last_passes : (k l m n o : Misfit) (a b c d e : Bool) → first_misfit (check k a ∷ check l b ∷ check m c ∷ check n d ∷ check o e ∷ []) ≡ None → e ≡ false
-last_passes k l m n o a b c d e h =
-    first_passes o e [] (others_pass n d (check o e ∷ []) (others_pass m c (check n d ∷ check o e ∷ []) (others_pass l b (check m c ∷ check n d ∷ check o e ∷ []) (others_pass k a (check l b ∷ check m c ∷ check n d ∷ check o e ∷ []) h))))
+-- after a change that was made
+pub stands_alone : (r : Remembered) (s t : PresentView) (us : List Undoing) (change : Change) → RemembersNothing change → t ≡ changed s change → StandsWith r s (parked s us) → StandsWith r t (parked t (undoing_of s change ∷ us))
+stands_alone r s t us change alone made h =
+    let P : PresentView → Type 0 = λ x. StandsWith r x (parked x (undoing_of s change ∷ us)) in
+    subst P (sym made) (moved r s (changed s change) us (undoing_of s change) (leaves_alone s change alone) h)
 
-not_yet : (s : PresentView) (net : List ℕ) (cycle value : ℕ) → first_misfit (checks_of_change s (Measure net cycle value)) ≡ None → reading_in s.readings (cell_of s net cycle) ≡ None
-not_yet s net cycle value free =
-    nothing_there (reading_in s.readings (cell_of s net cycle)) (last_passes UnknownNet BadCycle ValueDoesNotFit MeasurementsFull AlreadyMeasured
-    (not (is_some (net_named s net))) (not (nat_lt cycle s.cycles)) (not (nat_lt value (2 ^ width_of s (place_of s net)))) (nat_le MOST_READINGS (length s.readings)) (is_some (reading_in s.readings (cell_of s net cycle))) free)
+-- what takes a new component back
+undoing_adds : (s : PresentView) (change : Change) → adds_part change ≡ true → undoing_of s change ≡ back.Part
+undoing_adds s (Cycles count) e = cc
+undoing_adds s (Net name width) e = cc
+undoing_adds s (Add name kind nets) e = refl
+undoing_adds s (Cost name cost) e = cc
+undoing_adds s (Stuck name value cost) e = cc
+undoing_adds s (Acts name kind cost) e = cc
+undoing_adds s (Define block) e = cc
+undoing_adds s (Pin block name width) e = cc
+undoing_adds s (Inside block name kind nets) e = cc
+undoing_adds s (UseBlock block name nets) e = refl
+undoing_adds s (Measure net cycle value) e = cc
+undoing_adds s (Retract net cycle) e = cc
+undoing_adds s Undo e = cc
 
-made_reading : (s t : PresentView) (net : List ℕ) (cycle value : ℕ) → IsMade s (Measure net cycle value) t → IsMeasured s t (fact (cell_of s net cycle) value)
-made_reading s t net cycle value h = record { free = not_yet s net cycle value h.free; made = h.made }
+adding_leaves : (s : PresentView) (change : Change) → adds_part change ≡ true → (changed s change).readings ≡ s.readings
+adding_leaves s (Cycles count) e = cc
+adding_leaves s (Net name width) e = cc
+adding_leaves s (Add name kind nets) e = refl
+adding_leaves s (Cost name cost) e = cc
+adding_leaves s (Stuck name value cost) e = cc
+adding_leaves s (Acts name kind cost) e = cc
+adding_leaves s (Define block) e = cc
+adding_leaves s (Pin block name width) e = cc
+adding_leaves s (Inside block name kind nets) e = cc
+adding_leaves s (UseBlock block name nets) e = refl
+adding_leaves s (Measure net cycle value) e = cc
+adding_leaves s (Retract net cycle) e = cc
+adding_leaves s Undo e = cc
 
--- a line of a measurement that was placed, at this cell
-pub placed_reading : (s t : PresentView) (change : Change) (net : List ℕ) (cycle value : ℕ) (cell : Cell) → change ≡ Measure net cycle value → cell ≡ cell_of s net cycle → IsMade s change t → IsMeasured s t (fact cell value)
-placed_reading s t change net cycle value cell is at h =
-    let m : IsMade s (Measure net cycle value) t = subst (λ (c : Change). IsMade s c t) is h in
-    subst (λ (c : Cell). IsMeasured s t (fact c value)) (sym at) (made_reading s t net cycle value m)
+-- a component more alters nothing of what is parked
+pub adding_parked : (s t : PresentView) (us : List Undoing) (change : Change) → adds_part change ≡ true → t ≡ changed s change → parked t (undoing_of s change ∷ us) ≡ parked s us
+adding_parked s t us change adds made =
+    let nothing : retracted_by (undoing_of s change) ≡ None = ap retracted_by (undoing_adds s change adds) in
+    same_parked s t us (undoing_of s change) (ap (λ (x : PresentView). x.readings) made ∙ adding_leaves s change adds) nothing
 
-module _ (s t : PresentView) (f : Fact) (h : IsMeasured s t f) where
-  -- without it the present is as before
-  pub before_it : without_standing f.cell t ≡ s
-  before_it = ap (without_standing f.cell) h.made ∙ measured_last s f h.free
+module _ (r : Remembered) (s : PresentView) (us : List Undoing) where
+  -- a measurement more
+  pub measured_parked : (f : Fact) (t : PresentView) → reading_in s.readings f.cell ≡ None → t ≡ with_standing f s → StandsWith r t (without_fact f (parked s us)) → StandsWith r t (parked t us)
+  measured_parked f t free made h =
+      let P : PresentView → Type 0 = λ x. StandsWith r x (without_fact f (parked s us)) → StandsWith r x (parked x us) in
+      subst P (sym made) (parked_alike r (with_standing f s) (without_fact f (parked s us)) (parked (with_standing f s) us) (parking.stands_again s f free us)) h
 
-  pub free_before : reading_in (without_standing f.cell t).readings f.cell ≡ None
-  free_before = ap (λ (u : PresentView). reading_in u.readings f.cell) before_it ∙ h.free
+  -- a measurement that was retracted
+  pub retracted_parked : IsLawful s → (c : Cell) (v : ℕ) → reading_in s.readings c ≡ Some v → StandsWith r (without_standing c s) (fact c v ∷ parked s us) → StandsWith r (without_standing c s) (parked (without_standing c s) (back.Retracted (fact c v) ∷ us))
+  retracted_parked lawful c v at h =
+      let less : PresentView = without_standing c s in
+      let f : Fact = fact c v in
+      let alike = parking.is_retracted less f (may_stand s lawful c v at).free us in
+      let P : PresentView → Type 0 = λ x. StandsWith r less (f ∷ parked x us) in
+      parked_alike r less (f ∷ parked (with_standing f less) us) (parked less (back.Retracted f ∷ us)) alike (subst P (sym (stands_again s lawful c v at)) h)
 
-  pub listed_again : with_standing f (without_standing f.cell t) ≡ t
-  listed_again = ap (with_standing f) before_it ∙ sym h.made
+  -- a measurement that is taken back, and was retracted before
+  pub parked_still : IsLawful s → (c : Cell) (v : ℕ) → reading_in s.readings c ≡ Some v → IsIn (retracted us) (fact c v) → StandsWith r (without_standing c s) (fact c v ∷ parked s us) → StandsWith r (without_standing c s) (parked (without_standing c s) us)
+  parked_still lawful c v at out h =
+      let less : PresentView = without_standing c s in
+      let f : Fact = fact c v in
+      let alike = parking.parked_again less f (may_stand s lawful c v at).free us out in
+      let P : PresentView → Type 0 = λ x. StandsWith r less (f ∷ parked x us) in
+      parked_alike r less (f ∷ parked (with_standing f less) us) (parked less us) alike (subst P (sym (stands_again s lawful c v at)) h)
 
-  pub measured_there : IsSome (reading_in t.readings f.cell)
-  measured_there = subst (λ (u : PresentView). IsSome (reading_in u.readings f.cell)) (sym h.made) (measured_now s f h.free)
+  -- and one that was not
+  pub parked_no_more : IsLawful s → (c : Cell) (v : ℕ) → reading_in s.readings c ≡ Some v → (IsIn (retracted us) (fact c v) → ⊥) → StandsWith r (without_standing c s) (without_fact (fact c v) (fact c v ∷ parked s us)) → StandsWith r (without_standing c s) (parked (without_standing c s) us)
+  parked_no_more lawful c v at never h =
+      let less : PresentView = without_standing c s in
+      let f : Fact = fact c v in
+      let alike = parking.not_parked_again less f (may_stand s lawful c v at).free us never in
+      let P : PresentView → Type 0 = λ x. StandsWith r less (without_fact f (f ∷ parked x us)) in
+      parked_alike r less (without_fact f (f ∷ parked (with_standing f less) us)) (parked less us) alike (subst P (sym (stands_again s lawful c v at)) h)
+
+-- the newest change and the others
+pub newest_first : {X : Type 0} (old new : List X) (x : X) → Some x ≡ slice_get old 0 → new ≡ drop 1 old → old ≡ x ∷ new
+newest_first [] new x e d = cc
+newest_first (y ∷ old) new x e d = let same : x ≡ y = cc in (let P : List X → Type 0 = λ rest. y ∷ old ≡ x ∷ rest in subst P (sym d) (ap (λ z. z ∷ old) (sym same)))
+
+pub none_there : {X : Type 0} (old : List X) → None ≡ slice_get old 0 → old ≡ []
+none_there [] e = refl
+none_there (y ∷ old) e = cc

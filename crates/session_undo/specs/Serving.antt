@@ -14,6 +14,8 @@ use Rattle.netlist_text.specs.declared.requests.Query.{Query}
 use Rattle.netlist_text.specs.declared.requests.Query.TheVariants.{Label, Conflicts, Diagnose, Show, First}
 use Rattle.netlist_text.specs.declared.requests.Request.{Request}
 use Rattle.netlist_text.specs.declared.requests.Request.TheVariants as request
+use Rattle.standing_changes.specs.declared.remembered.Stop as standing
+use Rattle.standing_changes.specs.declared.remembered.Stop.TheVariants as standing_stop
 use Rattle.session_undo.specs.Presents.{State, after}
 use Rattle.session_undo.specs.Checks.{checks_of, first_refusal, late_checks_of, IsFirstCause, HasNoCause}
 use Rattle.session_undo.specs.Steps.{wants_memory, AreFirstDiagnoses}
@@ -28,6 +30,11 @@ use Rattle.session_undo.specs.declared.refusals.Stop.TheVariants as stop
 abbrev pub IsStopFor : Misfit → Stop → Type 0
 IsStopFor m (stop.Refused refused) = (m ≢ OutOfMemory) × (refused ≡ refusal.Misfit m)
 IsStopFor m stop.OutOfMemory = m ≡ OutOfMemory
+
+-- what a change is stopped with that is not remembered
+abbrev pub stop_of : standing.Stop → Stop
+stop_of standing_stop.LoadTooLarge = stop.Refused refusal.LoadTooLarge
+stop_of standing_stop.OutOfMemory = stop.OutOfMemory
 
 -- a change after which nothing more and nothing less is remembered and stands
 abbrev pub RemembersNothing : Change → Type 0

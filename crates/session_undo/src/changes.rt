@@ -4,7 +4,7 @@ ghost use Rattle.std.specs.Prelude.{◌≡◌, true};
 ghost use Rattle.netlist_text.specs.Grammar.{IsPadded};
 ghost use Rattle.netlist_text.specs.Placing.{IsOfPresent, adds_part};
 ghost use Rattle.netlist_text.specs.declared.requests.Change.TheVariants as change;
-ghost use Rattle.session_undo.specs.Serving.{Changes, RemembersNothing, IsStopFor};
+ghost use Rattle.session_undo.specs.Serving.{Changes, RemembersNothing, stop_of};
 
 use crate::refusals::{Refusal, Stop, stop_for};
 use crate::remembering::{note, step_back};
@@ -13,11 +13,10 @@ use circuit_model::{Fact, Name};
 use netlist_text::{Change, check_cell, place};
 use present_history::{take_back, undoing_of};
 use propagation_agenda::Picker;
-use standing_changes;
 
 // What a change is stopped with that is not remembered.
 fn stop_of(stop: standing_changes::Stop) -> Stop
-    ensures { IsStopOf stop result }
+    ensures { result ≡ stop_of stop }
 {
     match stop {
         standing_changes::Stop::LoadTooLarge => Stop::Refused(Refusal::LoadTooLarge),

@@ -1,0 +1,4 @@
+pub mod Refusing
+pub mod Parked
+pub mod Noting
+pub mod Changing
