@@ -92,10 +92,7 @@ impl Remembered {
     pub fn is_remembered(&self, fact: Fact) -> bool
         ensures { MatchBool result (IsRemembered self.now fact) ((k : ℕ) → stock self.now.engine.slots k ≡ Some (Reading fact) → ⊥) }
     {
-        match self.engine.slot_of(fact) {
-            Some(_) => true,
-            None => false,
-        }
+        self.engine.slot_of(fact).is_some()
     }
 
     // One assumption more is remembered. It does not stand.
