@@ -87,7 +87,10 @@ pub fn gde<S: Source, K: Sink>(
     if is_ordered_run(words) {
         return session::run(alloc, &mut picker_of(words), source, sink);
     }
-    match write_all(sink, b"usage: gde run | run order N | make N SEED | audit\n") {
+    match write_all(
+        sink,
+        b"usage: gde run | run order N | make N SEED | audit\n",
+    ) {
         Ok(()) => Status::Usage,
         Err(_) => Status::WriteFault,
     }

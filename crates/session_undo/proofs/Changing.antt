@@ -1,5 +1,5 @@
 -- What changes make of what stands and is parked.
-use Rattle.std.proofs.Common.{◌≡◌, ◌==◌, ℕ, zero, suc, ◌+◌, ◌-◌, ◌≤◌, ◌<◌, Bool, true, false, not, inl, inr, List, [], ◌∷◌, length, map, take, drop, filter, Option, Some, None, IsSome, refl, sym, ap, subst, ◌∙◌, arith}
+use Rattle.std.proofs.Common.{◌≡◌, ◌⊎◌, ◌==◌, ℕ, zero, suc, ◌+◌, ◌-◌, ◌≤◌, ◌<◌, Bool, true, false, not, inl, inr, List, [], ◌∷◌, length, map, take, drop, filter, Option, Some, None, IsSome, refl, sym, ap, subst, ◌∙◌, arith}
 use Rattle.std.specs.List.{slice_get, cons_option}
 use Rattle.std.specs.Option.{option_map_or}
 use Rattle.circuit_model.specs.Closure.{fact}
@@ -9,7 +9,7 @@ use Rattle.circuit_model.specs.declared.model.Assumption.TheVariants.{Part}
 use Rattle.circuit_model.specs.declared.model.Cell.{Cell}
 use Rattle.circuit_model.specs.declared.model.Fact.{Fact}
 use Rattle.circuit_model.specs.declared.present.Component.{Component}
-use Rattle.circuit_model.specs.Present.{PresentView, IsLawful, reading_in, with_standing, without_standing, change_at}
+use Rattle.circuit_model.specs.Present.{PresentView, IsLawful, reading_in, with_standing, without_standing, without_last_part, change_at}
 use Rattle.netlist_text.specs.declared.requests.Change.{Change}
 use Rattle.netlist_text.specs.declared.requests.Change.TheVariants.{Net, Add, Measure, Cycles, Retract, Undo, Cost, Stuck, Acts, Define, Pin, Inside, UseBlock}
 use Rattle.netlist_text.specs.Found.{IsMade}
@@ -94,7 +94,7 @@ stands_alone r s t us change alone made h =
     subst P (sym made) (moved r s (changed s change) us (undoing_of s change) (leaves_alone s change alone) h)
 
 -- what takes a new component back
-undoing_adds : (s : PresentView) (change : Change) → adds_part change ≡ true → undoing_of s change ≡ back.Part
+pub undoing_adds : (s : PresentView) (change : Change) → adds_part change ≡ true → undoing_of s change ≡ back.Part
 undoing_adds s (Cycles count) e = cc
 undoing_adds s (Net name width) e = cc
 undoing_adds s (Add name kind nets) e = refl
@@ -167,8 +167,33 @@ module _ (r : Remembered) (s : PresentView) (us : List Undoing) where
 -- the newest change and the others
 pub newest_first : {X : Type 0} (old new : List X) (x : X) → Some x ≡ slice_get old 0 → new ≡ drop 1 old → old ≡ x ∷ new
 newest_first [] new x e d = cc
-newest_first (y ∷ old) new x e d = let same : x ≡ y = cc in (let P : List X → Type 0 = λ rest. y ∷ old ≡ x ∷ rest in subst P (sym d) (ap (λ z. z ∷ old) (sym same)))
+newest_first {X} (y ∷ old) new x e d = let same : x ≡ y = cc in (let P : List X → Type 0 = λ rest. y ∷ old ≡ x ∷ rest in subst P (sym d) (ap (λ z. z ∷ old) (sym same)))
 
 pub none_there : {X : Type 0} (old : List X) → None ≡ slice_get old 0 → old ≡ []
 none_there [] e = refl
 none_there (y ∷ old) e = cc
+
+-- what takes a change back after which nothing more and nothing less stood
+abbrev pub TakesNothing : Undoing → Type 0
+TakesNothing u = ((n : ℕ) × (u ≡ back.Cycles n)) ⊎ (u ≡ back.Net) ⊎ ((n : ℕ) × (m : ℕ) × (u ≡ back.Cost n m)) ⊎ (u ≡ back.Mode) ⊎ (u ≡ back.Block) ⊎ ((n : ℕ) × (u ≡ back.Pin n)) ⊎ ((n : ℕ) × (u ≡ back.Inner n))
+
+module _ (s : PresentView) (u : Undoing) where
+  abbrev Leaves : Undoing → Type 0
+  Leaves x = LeavesAlone s (undone x s) x
+
+  pub takes_nothing : TakesNothing u → LeavesAlone s (undone u s) u
+  takes_nothing (inl h) = subst Leaves (sym h.1) (record { parts = refl; readings = refl; nothing = refl })
+  takes_nothing (inr (inl h)) = subst Leaves (sym h) (record { parts = refl; readings = refl; nothing = refl })
+  takes_nothing (inr (inr (inl h))) = subst Leaves (sym h.2) (record { parts = same_parts (λ c. record c { cost = h.1 }) (λ c. refl) h.0 s.parts; readings = refl; nothing = refl })
+  takes_nothing (inr (inr (inr (inl h)))) = subst Leaves (sym h) (record { parts = refl; readings = refl; nothing = refl })
+  takes_nothing (inr (inr (inr (inr (inl h))))) = subst Leaves (sym h) (record { parts = refl; readings = refl; nothing = refl })
+  takes_nothing (inr (inr (inr (inr (inr (inl h)))))) = subst Leaves (sym h.1) (record { parts = refl; readings = refl; nothing = refl })
+  takes_nothing (inr (inr (inr (inr (inr (inr h)))))) = subst Leaves (sym h.1) (record { parts = refl; readings = refl; nothing = refl })
+
+-- a component that goes alters nothing of what is parked
+pub part_goes : (old new : Remembered) (s : PresentView) (us : List Undoing) (u : Undoing) → u ≡ back.Part → ((parked : List Fact) → StandsWith old s parked → StandsWith new (without_last_part s) parked)
+    → StandsWith old s (parked s (u ∷ us)) → StandsWith new (undone u s) (parked (undone u s) us)
+part_goes old new s us u is leads h =
+    let P : Undoing → Type 0 = λ x. StandsWith old s (parked s (x ∷ us)) in
+    let Q : Undoing → Type 0 = λ x. StandsWith new (undone x s) (parked (undone x s) us) in
+    subst Q (sym is) (leads (parked s us) (subst P is h))

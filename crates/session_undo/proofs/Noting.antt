@@ -1,25 +1,34 @@
 -- What is remembered once the oldest change of a history goes.
-use Rattle.std.proofs.Common.{◌≡◌, ◌⊎◌, ℕ, suc, ◌≤◌, inl, inr, true, List, length, take, Option, Some, None, refl, sym, subst, ◌∙◌}
+use Rattle.std.proofs.Common.{◌≡◌, ◌⊎◌, ℕ, zero, suc, ◌≤◌, inl, inr, true, List, [], ◌∷◌, length, take, Option, Some, None, refl, sym, ap, subst, ◌∙◌}
 use Rattle.std.specs.List.{slice_get}
 use Rattle.circuit_model.specs.declared.model.Fact.{Fact}
 use Rattle.circuit_model.specs.Present.{PresentView}
 use Rattle.environment_sets.specs.Lists.{IsIn}
 use Rattle.present_history.specs.declared.undoing.Undoing.{Undoing}
 use Rattle.present_history.specs.Earlier.{measures, retracted, retracted_by}
-use Rattle.present_history.proofs.Earlier.{IsDropped, retracted-taken, retracted-dropped}
+use Rattle.present_history.proofs.Earlier.{IsDropped, first_in, later_in, retracted-taken, retracted-dropped}
 use Rattle.standing_view.specs.View.{without_fact}
 use Rattle.standing_changes.proofs.Alike.{AreAlike, is_other, among_others}
 use Rattle.session_undo.specs.Remembering.{parked}
 use Rattle.session_undo.proofs.Parked.{aside, is_parked}
 
+-- what the change at a place retracted was retracted
+pub was_out : (us : List Undoing) (n : ℕ) (u : Undoing) (f : Fact) → slice_get us n ≡ Some u → retracted_by u ≡ Some f → IsIn (retracted us) f
+was_out [] n u f at is = cc
+was_out (v ∷ us) zero u f at is = let same : v ≡ u = cc in first_in (retracted_by v) (retracted us) f (ap retracted_by same ∙ is)
+was_out (v ∷ us) (suc n) u f at is = later_in (retracted_by v) (retracted us) f (was_out us n u f at is)
+
 module _ (s : PresentView) (us : List Undoing) (n : ℕ) (most : length us ≤ suc n) where
   -- whatever was parked is, since what goes retracted nothing, or what was retracted again or stands
   pub all_stay : ((f : Fact) → IsDropped us n f → IsIn (retracted (take n us)) f ⊎ (measures s f ≡ true)) → AreAlike (parked s us) (parked s (take n us))
   all_stay kept f = (
-    λ h. let a = aside s us f h in is_parked s (take n us) f (record { gone = a.gone; out = elim (retracted-dropped us n f most a.out) [
-      | inl before ↦ before
-      | inr last ↦ elim (kept f last) [ inl out ↦ out | inr stands ↦ absurd (a.gone stands) ]
-    ] }),
+    λ h. let a = aside s us f h in is_parked s (take n us) f (record {
+      gone = a.gone;
+      out = elim (retracted-dropped us n f most a.out) [
+        | inl before ↦ before
+        | inr last ↦ elim (kept f last) [ inl out ↦ out | inr stands ↦ absurd (a.gone stands) ]
+      ];
+    }),
     λ h. let a = aside s (take n us) f h in is_parked s us f (record { out = retracted-taken us n f a.out; gone = a.gone }),
   )
 

@@ -1,7 +1,9 @@
 -- The measurements that are parked, after a change and once it is taken back.
-use Rattle.std.proofs.Common.{◌≡◌, ◌⊎◌, ◌↔◌, ℕ, ◌==◌, inl, inr, Bool, true, false, not, cond, IsTrue, List, [], ◌∷◌, Option, Some, None, refl, sym, ap, subst, ◌∙◌}
+use Rattle.std.proofs.Common.{◌≡◌, ◌⊎◌, ◌↔◌, ℕ, ◌==◌, inl, inr, Bool, true, false, not, cond, IsTrue, List, [], ◌∷◌, Option, Some, None, refl, sym, ap, ap₂, subst, ◌∙◌, arith}
 use Rattle.std.specs.Option.{option_map_or}
 use Rattle.std.proofs.lemmas.Bool.Decides.{nat_tests}
+use Rattle.circuit_model.specs.Closure.{fact}
+use Rattle.circuit_model.specs.declared.model.Cell.{Cell}
 use Rattle.circuit_model.specs.declared.model.Fact.{Fact}
 use Rattle.circuit_model.specs.Present.{PresentView, is_cell, reading_in, with_reading, with_standing}
 use Rattle.circuit_model.proofs.SameCells.{same_cell, cell_itself}
@@ -22,6 +24,9 @@ true_not false h e = cc
 not_true : (b : Bool) → (b ≡ true → ⊥) → IsTrue (not b)
 not_true true h = absurd (h refl)
 not_true false h = refl
+
+pub never_both : (b : Bool) → b ≡ false → b ≡ true → ⊥
+never_both b e f = cc
 
 -- it was retracted, and does not stand now
 pub record IsAside (s : PresentView) (us : List Undoing) (f : Fact) : Type 0 where
@@ -79,13 +84,23 @@ module _ (s : PresentView) (f : Fact) (free : reading_in s.readings f.cell ≡ N
   ]
     where
       same_fact : (f g : Fact) → f.cell ≡ g.cell → f.value ≡ g.value → f ≡ g
-      same_fact f g c v = cc
+      same_fact f g c v = ap₂ (λ (cell : Cell) (value : ℕ). fact cell value) c v
 
   -- a measurement that stands again is parked no more
   pub stands_again : (us : List Undoing) → AreAlike (without_fact f (parked s us)) (parked more us)
   stands_again us g = (
     λ h. let k = is_other f g (parked s us) h in let a = aside s us g k.listed in is_parked more us g (record { out = a.out; gone = λ e. elim (only g e) [ inl same ↦ k.other same | inr before ↦ a.gone before ] }),
     λ h. let a = aside more us g h in among_others f g (parked s us) (is_parked s us g (record { out = a.out; gone = λ e. a.gone (still g e) })) (λ same. a.gone (let P : Fact → Type 0 = λ x. measures more x ≡ true in subst P same gained)),
+  )
+
+  -- one that a change taken back had retracted is parked no more
+  pub stands_again_too : (us : List Undoing) → AreAlike (without_fact f (parked s (Retracted f ∷ us))) (parked more us)
+  stands_again_too us g = (
+    λ h. let k = is_other f g (parked s (Retracted f ∷ us)) h in let a = aside s (Retracted f ∷ us) g k.listed in is_parked more us g (record {
+      out = elim a.out [ inl same ↦ absurd (k.other same) | inr before ↦ before ];
+      gone = λ e. elim (only g e) [ inl same ↦ k.other same | inr before ↦ a.gone before ];
+    }),
+    λ h. let a = aside more us g h in among_others f g (parked s (Retracted f ∷ us)) (is_parked s (Retracted f ∷ us) g (record { out = inr a.out; gone = λ e. a.gone (still g e) })) (λ same. a.gone (let P : Fact → Type 0 = λ x. measures more x ≡ true in subst P same gained)),
   )
 
   -- one that was retracted is parked
@@ -125,6 +140,6 @@ module _ (s : PresentView) (f : Fact) (free : reading_in s.readings f.cell ≡ N
       | inr there ↦ let a = aside more us g there in is_parked s us g (record { out = a.out; gone = λ e. a.gone (still g e) })
     ],
     λ h. let a = aside s us g h in
-      let other : f ≡ g → ⊥ = λ same. never (let P : Fact → Type 0 = λ x. IsIn (retracted us) x in subst P (sym same) a.out) in
-      among_others f g (f ∷ parked more us) (inr (is_parked more us g (record { out = a.out; gone = λ e. elim (only g e) [ inl same ↦ other same | inr before ↦ a.gone before ] }))) other,
+        let other : f ≡ g → ⊥ = λ same. never (let P : Fact → Type 0 = λ x. IsIn (retracted us) x in subst P (sym same) a.out) in
+        among_others f g (f ∷ parked more us) (inr (is_parked more us g (record { out = a.out; gone = λ e. elim (only g e) [ inl same ↦ other same | inr before ↦ a.gone before ] }))) other,
   )

@@ -176,6 +176,22 @@ load_checked s (Measure net cycle value) e = cc
 load_checked s (Retract net cycle) e = cc
 load_checked s Undo e = cc
 
+-- and may find no memory
+pub wants_adding : (s : State) (change : Change) → adds_part change ≡ true → wants_memory s (request.Change change) ≡ true
+wants_adding s (Cycles count) e = cc
+wants_adding s (Net name width) e = cc
+wants_adding s (Add name kind nets) e = refl
+wants_adding s (Cost name cost) e = cc
+wants_adding s (Stuck name value cost) e = cc
+wants_adding s (Acts name kind cost) e = cc
+wants_adding s (Define block) e = cc
+wants_adding s (Pin block name width) e = cc
+wants_adding s (Inside block name kind nets) e = cc
+wants_adding s (UseBlock block name nets) e = refl
+wants_adding s (Measure net cycle value) e = cc
+wants_adding s (Retract net cycle) e = cc
+wants_adding s Undo e = cc
+
 pub one_cause : (s : State) (change : Change) → IsWithinLoad (changed s.present change) → HasNoCause (checks_of_load s change)
 one_cause s change within = (within, tt)
 

@@ -5,6 +5,7 @@ use Rattle.assumption_slots.specs.Slots.{stock}
 use Rattle.circuit_model.specs.declared.model.Assumption.TheVariants.{Reading}
 use Rattle.circuit_model.specs.declared.model.Fact.{Fact}
 use Rattle.circuit_model.specs.Present.{PresentView}
+use Rattle.environment_sets.specs.Lists.{IsIn}
 use Rattle.present_history.specs.declared.undoing.Undoing.{Undoing}
 use Rattle.present_history.specs.Earlier.{measures, some_measures, MayUndoEach, retracted}
 use Rattle.standing_changes.specs.Remembered.{StandsWith}
@@ -14,6 +15,10 @@ use Rattle.session_undo.specs.Presents.{State}
 -- the measurements that were retracted and do not stand now
 abbrev pub parked : PresentView → List Undoing → List Fact
 parked s us = filter (λ f. not (measures s f)) (retracted us)
+
+-- a change retracted the measurement, or it stands
+abbrev pub IsOut : List Undoing → PresentView → Fact → Type 0
+IsOut us s f = IsIn (retracted us) f ⊎ (measures s f ≡ true)
 
 -- what stands is the present, what was retracted since the oldest earlier present is remembered besides, and each change
 -- can be taken back

@@ -116,4 +116,3 @@ abbrev pub Takes : State → List ℕ → Reply → State → Type 0
 Takes old line NoMemory new = MayWant old line × (new ≡ old)
 Takes old line (Text text) new = Step old line (Text text) new
 Takes old line (Refused refusal) new = Step old line (Refused refusal) new
-

@@ -3,7 +3,7 @@
 ghost use Rattle.std.specs.Prelude.{◌≡◌, true};
 ghost use Rattle.netlist_text.specs.Grammar.{IsPadded};
 ghost use Rattle.netlist_text.specs.Placing.{IsOfPresent, adds_part};
-ghost use Rattle.netlist_text.specs.declared.requests.Change.TheVariants as change;
+ghost use Rattle.netlist_text.specs.declared.requests.Change.TheVariants as changes;
 ghost use Rattle.session_undo.specs.Serving.{Changes, RemembersNothing, stop_of};
 
 use crate::refusals::{Refusal, Stop, stop_for};
@@ -53,14 +53,13 @@ impl Session {
         requires padded { IsPadded change.now }
         ensures { Changes self.old change.now result self.new }
     {
+        // For the proof alone: no more is parked than as many presents as are kept.
+        let _changes = self.history.len();
         let undoing = undoing_of(&self.present, change);
         if let Err(misfit) = place(self.alloc, change, &mut self.present) {
             return Err(stop_for(misfit));
         }
-        if let Err(stop) = self
-            .remembered
-            .add_part(self.alloc, &self.present, picker)
-        {
+        if let Err(stop) = self.remembered.add_part(self.alloc, &self.present, picker) {
             self.present.drop_part();
             return Err(stop_of(stop));
         }
@@ -83,9 +82,11 @@ impl Session {
         value: u64,
         picker: &mut P,
     ) -> Result<(), Stop>
-        requires { change.now ≡ change.Measure net.now cycle value }
+        requires { change.now ≡ changes.Measure net.now cycle value }
         ensures { Changes self.old change.now result self.new }
     {
+        // For the proof alone: no more is parked than as many presents as are kept.
+        let _changes = self.history.len();
         let undoing = undoing_of(&self.present, change);
         let cell = match check_cell(&self.present, net, cycle) {
             Ok(cell) => cell,
@@ -110,7 +111,7 @@ impl Session {
 
     // A measurement stands no more, and stays remembered.
     fn retract(&mut self, change: &Change, net: &Name, cycle: u64) -> Result<(), Stop>
-        requires { change.now ≡ change.Retract net.now cycle }
+        requires { change.now ≡ changes.Retract net.now cycle }
         ensures { Changes self.old change.now result self.new }
     {
         let undoing = undoing_of(&self.present, change);
@@ -133,17 +134,12 @@ impl Session {
 
     // The newest of the earlier presents is the present again. It takes no memory.
     fn undo(&mut self) -> Result<(), Stop>
-        ensures { Changes self.old change.Undo result self.new }
+        ensures { Changes self.old changes.Undo result self.new }
     {
         let Some(undoing) = self.history.pop() else {
             return Err(Stop::Refused(Refusal::NothingToUndo));
         };
-        step_back(
-            &mut self.remembered,
-            &self.present,
-            &self.history,
-            undoing,
-        );
+        step_back(&mut self.remembered, &self.present, &self.history, undoing);
         take_back(&mut self.present, undoing);
         Ok(())
     }

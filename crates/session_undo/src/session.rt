@@ -61,6 +61,8 @@ impl Session {
     pub fn remembered(&self) -> &Remembered
         ensures { Remembers result.now self.now }
     {
+        // For the proof alone: the present is lawful.
+        let _parts = self.present.parts();
         &self.remembered
     }
 }
