@@ -2,12 +2,5 @@ pub mod Lines
 pub mod Runs
 pub mod Sessions
 pub mod Running
-pub mod Refusing
 pub mod Serving
 pub mod Causes
-pub mod Joining
-pub mod Listing
-pub mod LabelLines
-pub mod Remembered
-pub mod Changing
-pub mod Naming

@@ -32,12 +32,12 @@ steps_too_long first reader s t₀ t₁ k = record {
 
 -- a line that asks a request is answered as the request is
 pub takes : (old : State) (line : List ℕ) (request : Request) (reply : Reply) (new : State) → Reads line (Ok request) → Serves old request reply new → Takes old line reply new
-takes old line request (Text text) new reads s = served request reads s.0 s.1 s.2
+takes old line request (Text text) new reads s = served request reads s.0.early s.0.late s.1
 takes old line request (Refused refusal) new reads s = elim s.0 as (λ _. Takes old line (Refused refusal) new) [
   | inl early ↦ refused request reads refusal early refl s.1
   | inr late ↦ refused_late request reads late.0 refusal late.1 refl s.1
 ]
-takes old line request NoMemory new reads s = (record { request = request; asks = reads; free = s.0; wants = s.1 }, s.2)
+takes old line request NoMemory new reads s = (record { request = request; asks = reads; free = s.0.free; wants = s.0.wants }, s.1)
 
 -- a line with a fault is refused by it
 pub takes_faulty : (s : State) (line : List ℕ) (fault : LineFault) (reply : Reply) → Reads line (Err fault) → reply ≡ Refused (Unreadable fault) → Takes s line reply s

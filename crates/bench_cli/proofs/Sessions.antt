@@ -13,7 +13,7 @@ use Rattle.bench_io.proofs.Bytes.{Consumes-then, Consumes-nothing, Appends-then}
 use Rattle.session_undo.specs.Replies.{Reply, text_of}
 use Rattle.bench_cli.specs.Replies.{Exchange, transcript, lines_of_exchanges, has_refused, has_no_memory, is_refused, is_no_memory}
 use Rattle.session_undo.specs.Presents.{State, empty}
-use Rattle.bench_cli.specs.Answers.{IsReply}
+use Rattle.bench_cli.specs.Answering.{IsReply}
 use Rattle.bench_cli.specs.Turns.{Steps, ReadSofar, Cuts, CountsEnding, status_at, tally_after}
 use Rattle.bench_cli.specs.Session.{ReadsAll, ReadsTo, ReadsMost, ReadsSome, WhereTold, AnswersAll, Outcome, WritesPart}
 use Rattle.bench_cli.specs.Statuses.{status_by}

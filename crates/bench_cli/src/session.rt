@@ -1,7 +1,8 @@
 // A whole session: a line is read, its step is taken and its reply is written, until the end.
 ghost use Rattle.std.specs.Prelude.{◌≡◌, ◌≤◌, ◌<◌, ◌↔◌, false};
 ghost use Rattle.bench_io.specs.Causes.{Rose};
-ghost use Rattle.bench_cli.specs.Session.{Session, WhereTold};
+ghost use Rattle.bench_cli.specs.Session as whole;
+ghost use Rattle.bench_cli.specs.Session.{WhereTold};
 ghost use Rattle.bench_cli.specs.Causes.{TakesTooMuch};
 ghost use Rattle.bench_cli.specs.Turns.{Steps, tally_after, status_of, status_at};
 ghost use Rattle.bench_cli.specs.Answering.{IsReply, IsWritable};
@@ -110,7 +111,7 @@ pub fn run<P: Picker, S: Source, K: Sink>(
     source: &mut S,
     sink: &mut K,
 ) -> Status
-    ensures session { Session result (S.told source.old) (S.told source.new) (K.told sink.old) (K.told sink.new) }
+    ensures session { whole.Session result (S.told source.old) (S.told source.new) (K.told sink.old) (K.told sink.new) }
 
     // A read or a write failed just where the status says so.
     ensures read_fault { result ≡ Status.ReadFault → Rose (S.told source.old).faults (S.told source.new).faults }

@@ -1,7 +1,7 @@
 // The words of the command line.
-ghost use Rattle.std.specs.Prelude.{◌≡◌, ◌↔◌, IsTrue, length, slice_get, Some, true};
+ghost use Rattle.std.specs.Prelude.{◌≡◌, ◌↔◌, IsTrue, codes, true};
 ghost use Rattle.std.specs.String.{string_bytes};
-ghost use Rattle.netlist_text.specs.Words.{is_number};
+ghost use Rattle.netlist_text.specs.Words as lines;
 ghost use Rattle.bench_cli.specs.Words.{IsPlainRun, IsOrderedRun};
 
 use netlist_text::{is_number, number_of};
@@ -29,7 +29,7 @@ pub fn is_ordered_run(words: &[String]) -> bool
 }
 
 fn are_ordered(run: &String, order: &String, number: &String) -> bool
-    ensures { IsTrue result ↔ AreOrdered run.now order.now number.now }
+    ensures { IsTrue result ↔ ((string_bytes run.now ≡ codes "run") × (string_bytes order.now ≡ codes "order") × (lines.is_number (string_bytes number.now) ≡ true)) }
 {
     is_word(run, b"run") && is_word(order, b"order") && is_number(number.as_bytes())
 }

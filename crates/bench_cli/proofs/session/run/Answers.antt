@@ -2,7 +2,7 @@ use Rattle.std.proofs.Common.{arith, refl, [], ◌∷◌, sym, subst, ◌∙◌,
 use Rattle.bench_io.proofs.Bytes.{Appends-nothing, Rose-later}
 use Rattle.bench_cli.specs.Replies.{Exchange}
 use Rattle.bench_cli.specs.Turns.{ReadSofar}
-use Rattle.bench_cli.specs.State.{State}
+use Rattle.session_undo.specs.Presents.{State}
 use Rattle.bench_cli.proofs.Causes.{too_much_exactly}
 use Rattle.bench_cli.proofs.Sessions.{begun, stepped, ahead_falls, reads_some, outcome_of, writes_part, writes_whole, noted_refused, noted_no_memory, failed_read}
 use Rattle.bench_cli.proofs.session.run.Goals as goal
@@ -50,7 +50,7 @@ returns-in-Err-reply-clause-session g c =
     let last : Exchange = record { line = q.answer.1.line; reply = w.0 } in
     record {
       exchanges = i.exchanges ++ last ∷ [];
-      state = c.step.new.bench;
+      state = c.step.new.session;
       run = n.0.run;
       outcome = (reads_some _ _ _ _ _ n.0, writes_part i.exchanges last _ _ _ i.written w.3.front);
     }
@@ -60,7 +60,7 @@ returns-in-Err-step-clause-session g c =
     let i = c.loop-answer.invariant in
     record {
       exchanges = i.exchanges;
-      state = c.loop-answer.bench;
+      state = c.loop-answer.session;
       run = i.read.run;
       outcome = rw c.status_at.ensures (outcome_of c.in-Err-step.ending c.loop-answer.tally i.exchanges _ _ _ _ _ _ _ _ _ i.read i.written i.refused i.no_memory c.in-Err-step.ensures);
     }

@@ -1,5 +1,5 @@
 use Rattle.std.proofs.Common.{append_assoc, ◌≡◌, ◌++◌, List, ℕ, decimal, codes, ◌∙◌}
-use Rattle.bench_cli.specs.Replies.{refusal_line}
+use Rattle.session_undo.specs.Replies.{refusal_line}
 use Rattle.bench_cli.proofs.writing.write_refusal.Goals as goal
 
 joined_line : (n : ℕ) (digits text : List ℕ) → digits ≡ decimal n → codes "no " ++ (digits ++ (codes " " ++ (text ++ codes "\n"))) ≡ refusal_line n text
