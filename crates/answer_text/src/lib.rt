@@ -1,11 +1,13 @@
-//! The texts of answers: labels, sets of components and next measurements, written without memory.
+//! The texts of answers: labels, sets of components, next measurements and derivations, written without memory.
 #![tactic(auto)]
 
+mod derivations;
 mod labels;
 mod probes;
 mod sets;
 mod texts;
 
+pub use derivations::write_derivation;
 pub use labels::write_label;
 pub use probes::write_probe;
 pub use sets::write_sets;
