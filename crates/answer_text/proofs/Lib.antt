@@ -3,3 +3,4 @@ pub mod Naming
 pub mod LabelLines
 pub mod Listing
 pub mod StepLines
+pub mod Nameable

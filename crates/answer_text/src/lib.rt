@@ -3,11 +3,13 @@
 
 mod derivations;
 mod labels;
+mod laws;
 mod probes;
 mod sets;
 mod texts;
 
 pub use derivations::write_derivation;
 pub use labels::write_label;
+pub use laws::valid_derivations_can_be_written;
 pub use probes::write_probe;
 pub use sets::write_sets;
