@@ -1,2 +1,4 @@
 pub mod Texts
 pub mod Labels
+pub mod Derivations
+pub mod Laws

@@ -1,5 +1,5 @@
 -- How cells, facts and environments are printed.
-use Rattle.std.specs.Prelude.{ℕ, suc, if◌then◌else◌, List, [], ◌∷◌, ◌++◌, codes, decimal, map}
+use Rattle.std.specs.Prelude.{ℕ, suc, if◌then◌else◌, List, [], ◌∷◌, ◌++◌, codes, decimal, map, Option, Some, None}
 use Rattle.std.specs.List.{filter, join_with_byte}
 use Rattle.environment_sets.specs.Sets.{Set}
 use Rattle.circuit_model.specs.declared.model.Cell.{Cell}
@@ -10,6 +10,7 @@ use Rattle.circuit_model.specs.Closure.{fact}
 use Rattle.circuit_model.specs.Diagnoses.{Place, AtPart, AtCell}
 use Rattle.circuit_model.specs.Printed.{Labelled}
 use Rattle.netlist_text.specs.Show.{cell_text}
+use Rattle.probe_planner.specs.declared.planner.Probe.{Probe}
 
 -- the cell, `=` and the value
 abbrev pub fact_text : PresentView → Fact → List ℕ
@@ -49,3 +50,16 @@ label_line s f E = fact_text s f ++ codes " " ++ environment_text s E ++ codes "
 abbrev pub label_lines : PresentView → Cell → List Labelled → List ℕ
 label_lines s c [] = []
 label_lines s c (l ∷ ls) = label_line s (fact c l.word) l.environment ++ label_lines s c ls
+
+-- `probe`, a cell, its score and the total
+abbrev pub probe_line : PresentView → Cell → (score total : ℕ) → List ℕ
+probe_line s c score total = codes "probe " ++ cell_text s c ++ codes " " ++ decimal score ++ codes " " ++ decimal total ++ codes "\n"
+
+-- that there is no measurement to make
+abbrev pub no_probe_line : List ℕ
+no_probe_line = codes "probe none\n"
+
+-- the line of the best next measurement, or that there is none
+abbrev pub best_line : PresentView → Option Probe → List ℕ
+best_line s (Some p) = probe_line s p.cell p.score p.total
+best_line s None = no_probe_line

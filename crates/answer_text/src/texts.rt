@@ -14,7 +14,7 @@ use environment_sets::Env;
 use netlist_text::put_cell;
 use standing_view::Standing;
 
-fn put_fact<K: Sink>(sink: &mut K, failed: bool, present: &Present, fact: Fact) -> bool
+pub fn put_fact<K: Sink>(sink: &mut K, failed: bool, present: &Present, fact: Fact) -> bool
     requires { fact.cell.net < length present.now.nets }
     ensures { Puts failed result (K.told sink.old) (K.told sink.new) (fact_text present.now fact) }
 {
@@ -87,7 +87,7 @@ fn put_cells<K: Sink>(
     failed
 }
 
-fn put_environment<K: Sink>(
+pub fn put_environment<K: Sink>(
     sink: &mut K,
     failed: bool,
     present: &Present,
