@@ -3,10 +3,14 @@
 #![tactic(auto)]
 
 mod checker;
+mod closed;
+mod closing;
 mod conclusions;
 mod derivation;
 mod premises;
 mod written;
 
 pub use checker::check;
+pub use closed::Closed;
+pub use closing::close;
 pub use derivation::{Derivation, Ending, Goal, Step, Steps};
