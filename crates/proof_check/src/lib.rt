@@ -5,7 +5,7 @@
 mod checker;
 mod closed;
 mod closing;
-mod conclusions;
+pub mod conclusions;
 mod derivation;
 mod premises;
 mod written;
@@ -14,3 +14,4 @@ pub use checker::check;
 pub use closed::Closed;
 pub use closing::close;
 pub use derivation::{Derivation, Ending, Goal, Step, Steps};
+pub use written::{facts_known, number_of};

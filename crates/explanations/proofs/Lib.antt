@@ -1,0 +1,5 @@
+pub mod Listed
+pub mod Choices
+pub mod Forced
+pub mod Short
+pub mod Closings

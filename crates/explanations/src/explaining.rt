@@ -1,0 +1,90 @@
+// Canonical derivations.
+
+ghost use Rattle.std.specs.Prelude.{◌≡◌, IfOk, map};
+ghost use Rattle.environment_sets.specs.Lists.{IsIn};
+ghost use Rattle.circuit_model.specs.declared.model.Fact.{Fact};
+ghost use Rattle.circuit_model.specs.Chosen.{chosen_places};
+ghost use Rattle.circuit_model.specs.Stock.{Has, IsRefutedBy};
+ghost use Rattle.circuit_model.specs.Diagnoses.{stock_of};
+ghost use Rattle.circuit_model.specs.Derivation as derivations;
+ghost use Rattle.circuit_model.specs.Derivation.{AreStepsTo, IsCanonical};
+ghost use Rattle.circuit_model.specs.Present.{circuit_of};
+ghost use Rattle.proof_check.specs.Closing.{Closes};
+ghost use Rattle.proof_check.specs.Written.{given, step_of, ending_of, goal_of, derivation_of};
+ghost use Rattle.proof_check.specs.declared.derivation.Goal.TheVariants.{Value, Clash};
+
+use crate::marks::steps_to;
+use crate::supports::supports;
+use circuit_model::{Chosen, Fact, Present};
+use proof_check::{Closed, Derivation, Ending, Steps, close};
+use std::alloc::{AllocError, Global};
+
+/// The canonical derivation of a fact that follows from a consistent environment of a present. Where memory is wanting,
+/// nothing is left behind.
+pub fn explain_value(
+    alloc: Global,
+    present: &Present,
+    chosen: &Chosen,
+    fact: Fact,
+) -> Result<Derivation, AllocError>
+    requires consistent { IsRefutedBy (stock_of (circuit_of present.now)) (chosen_places chosen.now) → ⊥ }
+    requires follows { Has (stock_of (circuit_of present.now)) fact (chosen_places chosen.now) }
+    ensures canonical { IfOk result (λ d. IsCanonical (circuit_of present.now) (chosen_places chosen.now) (goal_of (Value fact)) (derivation_of d)) }
+{
+    let closed = close(alloc, present, chosen)?;
+    let steps = steps_behind(alloc, present, chosen, &closed, &[Some(fact), None])?;
+    Ok(Derivation {
+        steps,
+        ending: Ending::Holds,
+    })
+}
+
+/// The canonical derivation of the clash of an environment of a present. Where memory is wanting, nothing is left behind.
+pub fn explain_clash(
+    alloc: Global,
+    present: &Present,
+    chosen: &Chosen,
+) -> Result<Derivation, AllocError>
+    requires clashes { IsRefutedBy (stock_of (circuit_of present.now)) (chosen_places chosen.now) }
+    ensures canonical { IfOk result (λ d. IsCanonical (circuit_of present.now) (chosen_places chosen.now) (goal_of Clash) (derivation_of d)) }
+{
+    let closed = close(alloc, present, chosen)?;
+    match closed.clash() {
+        Some(ending) => {
+            let facts = facts_in_clash(&ending);
+            let steps = steps_behind(alloc, present, chosen, &closed, &facts)?;
+            Ok(Derivation { steps, ending })
+        }
+        None => unreachable!(),
+    }
+}
+
+/// The supports of these facts of the environment, and of all that is behind them.
+fn steps_behind(
+    alloc: Global,
+    present: &Present,
+    chosen: &Chosen,
+    closed: &Closed,
+    goals: &[Option<Fact>; 2],
+) -> Result<Steps, AllocError>
+    requires closes { Closes present.now (chosen_places chosen.now) closed.now }
+    requires listed { (f : Fact) → IsIn (given goals.now) f → IsIn (map (λ t. t.fact) closed.now.facts) f }
+    ensures { IfOk result (λ steps. AreStepsTo (circuit_of present.now) (chosen_places chosen.now) (given goals.now) (map step_of steps)) }
+{
+    let supports = supports(alloc, present, chosen, closed)?;
+    steps_to(alloc, goals, &supports)
+}
+
+/// The facts that the clash is of.
+fn facts_in_clash(ending: &Ending) -> [Option<Fact>; 2]
+    ensures { given result ≡ derivations.facts_in_clash (ending_of ending.now) }
+{
+    match *ending {
+        Ending::Holds => [None, None],
+        Ending::TwoValues { cell, low, high } => [
+            Some(Fact { cell, value: low }),
+            Some(Fact { cell, value: high }),
+        ],
+        Ending::Refuted { from, .. } => from,
+    }
+}
