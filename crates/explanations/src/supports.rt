@@ -23,7 +23,8 @@ pub fn supports(
     chosen: &Chosen,
     closed: &Closed,
 ) -> Result<Vec<Step>, AllocError>
-    requires { Closes present.now (chosen_places chosen.now) closed.now }
+    requires lawful { IsLawful present.now }
+    requires closes { Closes present.now (chosen_places chosen.now) closed.now }
     ensures { IfOk result (λ steps. AreSupports (circuit_of present.now) (chosen_places chosen.now) closed.now.facts (map step_of steps.items)) }
 {
     let mut steps = Vec::with_capacity(alloc, closed.len())?;
@@ -42,6 +43,7 @@ fn support_of(
     fact: Fact,
     round: u32,
 ) -> Step
+    requires lawful { IsLawful present.now }
     requires closes { Closes present.now (chosen_places chosen.now) closed.now }
     requires listed { IsIn closed.now.facts (record { fact = fact; round = round }) }
     ensures shows { fact_of (step_of result) ≡ fact }
@@ -64,6 +66,7 @@ fn first_step(
     fact: Fact,
     round: u32,
 ) -> Option<Step>
+    requires lawful { IsLawful present.now }
     requires told { TellsRound present.now (chosen_places chosen.now) closed.now.facts round }
     ensures { MatchOption result ((j : Justification) → Justifies (circuit_of present.now) (chosen_places chosen.now) (HoldsAt (circuit_of present.now) (chosen_places chosen.now) round) fact j → ⊥) (λ s. IsFirstStep (circuit_of present.now) (chosen_places chosen.now) round fact (step_of s)) }
 {
