@@ -5,3 +5,5 @@ pub mod Short
 pub mod Closings
 pub mod Joined
 pub mod Supported
+pub mod Marking
+pub mod Canonical

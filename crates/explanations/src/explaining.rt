@@ -71,6 +71,8 @@ fn steps_behind(
     requires listed { (f : Fact) → IsIn (given goals.now) f → IsIn (map (λ t. t.fact) closed.now.facts) f }
     ensures { IfOk result (λ steps. AreStepsTo (circuit_of present.now) (chosen_places chosen.now) (given goals.now) (map step_of steps)) }
 {
+    // For the proof alone: a present is lawful.
+    let _cycles = present.cycles();
     let supports = supports(alloc, present, chosen, closed)?;
     steps_to(alloc, goals, &supports)
 }
