@@ -226,12 +226,12 @@ module _ (s : PresentView) (E : Set Place) where
 
       module _ (wanted : List Fact) (listed : (f : Fact) → IsIn wanted f → IsIn (map (λ (t : Timed). t.fact) c.facts) f) (marks : List Bool) (m : AreMarks 0 wanted steps marks) where
         needed_in : (st : Step) → IsNeeded wanted steps st → IsIn steps st
-        needed_in st (ForGoal st at h) = at
-        needed_in st (ForStep st t needed at h) = at
+        needed_in _ (ForGoal st at h) = at
+        needed_in _ (ForStep st t needed at h) = at
 
         needed_reached : (st : Step) → IsNeeded wanted steps st → IsReached (circuit_of s) E wanted (fact_of st)
-        needed_reached st (ForGoal st at h) = AtStart (fact_of st) h
-        needed_reached st (ForStep st t needed at h) = Behind t (fact_of st) (needed_reached t needed) (sup.supports t (needed_in t needed)) h
+        needed_reached _ (ForGoal st at h) = AtStart (fact_of st) h
+        needed_reached _ (ForStep st t needed at h) = Behind t (fact_of st) (needed_reached t needed) (sup.supports t (needed_in t needed)) h
 
         -- a step that shows it is marked
         record IsMarkedFor (f : Fact) : Type 0 where
@@ -242,10 +242,10 @@ module _ (s : PresentView) (E : Set Place) where
           marked : IsMarked marks place
 
         reached_marked : (f : Fact) → IsReached (circuit_of s) E wanted f → IsMarkedFor f
-        reached_marked f (AtStart f h) =
+        reached_marked _ (AtStart f h) =
             let x : IsShownAt f = shown_at f (listed f h) in
             record { place = x.place; step = x.step; at = x.at; is = x.is; marked = m.goals x.place x.step x.at (subst (λ (f : Fact). IsIn wanted f) (sym x.is) h) }
-        reached_marked f (Behind st f r support h) =
+        reached_marked _ (Behind st f r support h) =
             let t : IsMarkedFor (fact_of st) = reached_marked (fact_of st) r in
             let same : facts_behind t.step ≡ facts_behind st = same_support t.step st (before_last t.place t.step t.at) (support_at t.place t.step t.at) support t.is in
             let there : IsIn (facts_behind t.step) f = (let Q : List Fact → Type 0 = λ fs. IsIn fs f in subst Q (sym same) h) in

@@ -7,3 +7,4 @@ pub mod Joined
 pub mod Supported
 pub mod Marking
 pub mod Canonical
+pub mod Explained
