@@ -6,5 +6,5 @@ pub mod Closings
 pub mod Joined
 pub mod Supported
 pub mod Marking
-pub mod Canonical
+pub mod Walked
 pub mod Explained

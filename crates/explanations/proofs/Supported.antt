@@ -13,7 +13,6 @@ use Rattle.circuit_model.specs.Derivation.{Justification, by_instance, Step, Mea
 use Rattle.proof_check.proofs.Assumed.{HasPart, part_assumed}
 use Rattle.proof_check.specs.Closing.{Timed}
 use Rattle.explanations.specs.Forcing.{IsFirstStep}
-use Rattle.explanations.specs.Needed.{AreSupports}
 
 module _ (P : Circuit) (E : Set Place) where
   -- a forced fact has a justification
@@ -51,22 +50,3 @@ module _ (P : Circuit) (E : Set Place) where
       let Q : Fact → Type 0 = λ h. IsFirst (Justifies P E (HoldsAt P E n) h) (by_instance part instance ports from) in subst Q (sym same) first,
     ),
   )
-
-  -- no fact, no support
-  pub no_supports : (steps : List Step) → steps ≡ [] → AreSupports P E [] steps
-  no_supports steps none = record { shown = ap (map fact_of) none; supports = λ s h. absurd (let Q : List Step → Type 0 = λ ss. IsIn ss s in subst Q none h) }
-
-  -- one more
-  pub supports_more : (facts : List Timed) (i : ℕ) (t : Timed) (steps : List Step) (s : Step) → slice_get facts i ≡ Some t → fact_of s ≡ t.fact → IsSupport P E s → AreSupports P E (take i facts) steps → AreSupports P E (take (i + 1) facts) (steps ++ s ∷ [])
-  supports_more facts i t steps s at shows support a =
-      let inside : i < length facts = slice_get_within facts i t at in
-      let more : take (i + 1) facts ≡ take i facts ++ t ∷ [] = take_more facts i t inside ∙ ap (λ (u : Timed). take i facts ++ u ∷ []) (get_or_from_slice_get facts i t t at) in
-      record {
-        shown =
-            map-append fact_of steps (s ∷ []) ∙ (ap₂ (λ (f : Fact) (fs : List Fact). fs ++ f ∷ []) shows a.shown ∙ (sym (map-append (λ (t : Timed). t.fact) (take i facts) (t ∷ [])) ∙ ap (map (λ (t : Timed). t.fact)) (sym more)));
-        supports = λ r h. elim (IsIn-append steps (s ∷ []) r h) [ inl there ↦ a.supports r there | inr last ↦ elim last [ inl same ↦ subst (λ (r : Step). IsSupport P E r) same support | inr bad ↦ absurd bad ] ];
-      }
-
-  -- all of them
-  pub supports_all : (facts : List Timed) (i : ℕ) (steps : List Step) → length facts ≤ i → AreSupports P E (take i facts) steps → AreSupports P E facts steps
-  supports_all facts i steps all a = let whole : take i facts ≡ facts = take_all i facts all in subst (λ (fs : List Timed). AreSupports P E fs steps) whole a

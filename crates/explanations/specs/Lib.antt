@@ -1,3 +1,3 @@
 pub mod Words
 pub mod Forcing
-pub mod Needed
+pub mod Marks

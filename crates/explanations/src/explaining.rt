@@ -1,22 +1,18 @@
 // Canonical derivations.
 
-ghost use Rattle.std.specs.Prelude.{◌≡◌, IfOk, map};
-ghost use Rattle.environment_sets.specs.Lists.{IsIn};
-ghost use Rattle.circuit_model.specs.declared.model.Fact.{Fact};
+ghost use Rattle.std.specs.Prelude.{◌≡◌, IfOk};
 ghost use Rattle.circuit_model.specs.Chosen.{chosen_places};
 ghost use Rattle.circuit_model.specs.Stock.{Has, IsRefutedBy};
 ghost use Rattle.circuit_model.specs.Diagnoses.{stock_of};
 ghost use Rattle.circuit_model.specs.Derivation as derivations;
-ghost use Rattle.circuit_model.specs.Derivation.{AreStepsTo, IsCanonical};
+ghost use Rattle.circuit_model.specs.Derivation.{IsCanonical};
 ghost use Rattle.circuit_model.specs.Present.{circuit_of};
-ghost use Rattle.proof_check.specs.Closing.{Closes};
-ghost use Rattle.proof_check.specs.Written.{given, step_of, ending_of, goal_of, derivation_of};
+ghost use Rattle.proof_check.specs.Written.{given, ending_of, goal_of, derivation_of};
 ghost use Rattle.proof_check.specs.declared.derivation.Goal.TheVariants.{Value, Clash};
 
-use crate::marks::steps_to;
-use crate::supports::supports;
+use crate::walk::steps_behind;
 use circuit_model::{Chosen, Fact, Present};
-use proof_check::{Closed, Derivation, Ending, Steps, close};
+use proof_check::{Derivation, Ending, close};
 use std::alloc::{AllocError, Global};
 
 /// The canonical derivation of a fact that follows from a consistent environment of a present. Where memory is wanting,
@@ -57,24 +53,6 @@ pub fn explain_clash(
         }
         None => unreachable!(),
     }
-}
-
-/// The supports of these facts of the environment, and of all that is behind them.
-fn steps_behind(
-    alloc: Global,
-    present: &Present,
-    chosen: &Chosen,
-    closed: &Closed,
-    goals: &[Option<Fact>; 2],
-) -> Result<Steps, AllocError>
-    requires closes { Closes present.now (chosen_places chosen.now) closed.now }
-    requires listed { (f : Fact) → IsIn (given goals.now) f → IsIn (map (λ t. t.fact) closed.now.facts) f }
-    ensures { IfOk result (λ steps. AreStepsTo (circuit_of present.now) (chosen_places chosen.now) (given goals.now) (map step_of steps)) }
-{
-    // For the proof alone: a present is lawful.
-    let _cycles = present.cycles();
-    let supports = supports(alloc, present, chosen, closed)?;
-    steps_to(alloc, goals, &supports)
 }
 
 /// The facts that the clash is of.

@@ -5,6 +5,7 @@ mod explaining;
 mod forcing;
 mod marks;
 mod supports;
+mod walk;
 mod words;
 
 pub use explaining::{explain_clash, explain_value};

@@ -1,6 +1,6 @@
-// What supports the facts of an environment.
+// What supports a fact of an environment.
 
-ghost use Rattle.std.specs.Prelude.{◌≡◌, ℕ, MatchOption, IfOk, map};
+ghost use Rattle.std.specs.Prelude.{◌≡◌, MatchOption};
 ghost use Rattle.environment_sets.specs.Lists.{IsIn};
 ghost use Rattle.circuit_model.specs.Chosen.{chosen_places};
 ghost use Rattle.circuit_model.specs.Derivation.{Justification, HoldsAt, Justifies, fact_of, IsSupport};
@@ -9,34 +9,13 @@ ghost use Rattle.proof_check.specs.Closing.{Closes};
 ghost use Rattle.proof_check.specs.Written.{step_of};
 ghost use Rattle.explanations.specs.Words.{TellsRound};
 ghost use Rattle.explanations.specs.Forcing.{IsFirstStep};
-ghost use Rattle.explanations.specs.Needed.{AreSupports};
 
 use crate::forcing::{Forcing, forcing_at};
 use circuit_model::{Chosen, Fact, Present};
 use proof_check::{Closed, Step};
-use std::alloc::{AllocError, Global};
-
-/// The support of each fact of the environment, in order.
-pub fn supports(
-    alloc: Global,
-    present: &Present,
-    chosen: &Chosen,
-    closed: &Closed,
-) -> Result<Vec<Step>, AllocError>
-    requires lawful { IsLawful present.now }
-    requires closes { Closes present.now (chosen_places chosen.now) closed.now }
-    ensures { IfOk result (λ steps. AreSupports (circuit_of present.now) (chosen_places chosen.now) closed.now.facts (map step_of steps.items)) }
-{
-    let mut steps = Vec::with_capacity(alloc, closed.len())?;
-    for i in 0..closed.len() {
-        let (fact, round) = closed.at(i);
-        steps.push(support_of(present, chosen, closed, fact, round))?;
-    }
-    Ok(steps)
-}
 
 /// The support of a fact of the environment, which first holds at the round.
-fn support_of(
+pub fn support_of(
     present: &Present,
     chosen: &Chosen,
     closed: &Closed,
