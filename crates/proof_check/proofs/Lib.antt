@@ -5,3 +5,4 @@ pub mod Fitting
 pub mod Told
 pub mod Nothing
 pub mod Valid
+pub mod Ordered

@@ -1,3 +1,4 @@
 pub mod Written
 pub mod Checking
 pub mod Closing
+pub mod Ordered

@@ -7,6 +7,7 @@ mod closed;
 mod closing;
 mod conclusions;
 mod derivation;
+mod facts;
 mod premises;
 mod written;
 
