@@ -6,3 +6,4 @@ pub mod Told
 pub mod Nothing
 pub mod Valid
 pub mod Ordered
+pub mod HeldWords

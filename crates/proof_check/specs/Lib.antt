@@ -2,3 +2,4 @@ pub mod Written
 pub mod Checking
 pub mod Closing
 pub mod Ordered
+pub mod Rounds

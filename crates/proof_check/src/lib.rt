@@ -8,6 +8,7 @@ mod closing;
 mod conclusions;
 mod derivation;
 mod facts;
+mod held;
 mod premises;
 mod written;
 
