@@ -7,3 +7,7 @@ pub mod Nothing
 pub mod Valid
 pub mod Ordered
 pub mod HeldWords
+pub mod Looks
+pub mod Lengths
+pub mod Turning
+pub mod Holding

@@ -3,3 +3,4 @@ pub mod Checking
 pub mod Closing
 pub mod Ordered
 pub mod Rounds
+pub mod Turns

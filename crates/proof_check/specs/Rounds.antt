@@ -13,8 +13,7 @@ use Rattle.circuit_model.specs.Derivation as derivations
 use Rattle.circuit_model.specs.Derivation.{Justification, by_instance, number_of, facts_at, IsJustificationBefore, IsFirst, Justifies, JustifiesClash}
 use Rattle.circuit_model.specs.Present.{PresentView, IsLawful, circuit_of}
 use Rattle.proof_check.specs.declared.derivation.Ending.{Ending}
-use Rattle.proof_check.specs.declared.derivation.Ending.TheVariants.{Holds, TwoValues, Refuted}
-use Rattle.proof_check.specs.Written.{given, ending_of}
+use Rattle.proof_check.specs.Written.{ending_of}
 use Rattle.proof_check.specs.Checking.{AreAlike, AllFit}
 
 -- the present is lawful; no two of the facts are words at one cell, and each fits its net
@@ -98,12 +97,12 @@ pub record AreLookedAt (s : PresentView) (E : Set Place) (held : List Fact) (nex
 abbrev pub from_here : (part place ports : ℕ) → Justification
 from_here part place ports = by_instance part place ports []
 
--- the first justification that refutes what is held
-abbrev pub IsFirstRefuted : PresentView → Set Place → List Fact → Ending → Type 0
-IsFirstRefuted s E held (Refuted part instance ports from) = IsFirst (JustifiesClash (circuit_of s) E (IsIn held)) (by_instance part instance ports (given from))
-IsFirstRefuted s E held Holds = ⊥
-IsFirstRefuted s E held (TwoValues c low high) = ⊥
+-- the ending tells the first justification that refutes what is held
+abbrev pub IsFirstClash : PresentView → Set Place → List Fact → derivations.Ending → Type 0
+IsFirstClash s E held derivations.Holds = ⊥
+IsFirstClash s E held (derivations.TwoValues c low high) = ⊥
+IsFirstClash s E held (derivations.Refuted part instance ports from) = IsFirst (JustifiesClash (circuit_of s) E (IsIn held)) (by_instance part instance ports from)
 
 -- What looking comes to: all before this one were looked at, or the first that refutes was met.
 abbrev pub Looks : PresentView → Set Place → List Fact → Justification → List Fact → Option Ending → Type 0
-Looks s E held next found clash = MatchOption clash (AreLookedAt s E held next found) (IsFirstRefuted s E held)
+Looks s E held next found clash = MatchOption clash (AreLookedAt s E held next found) (λ ending. IsFirstClash s E held (ending_of ending))

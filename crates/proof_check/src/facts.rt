@@ -32,7 +32,7 @@ impl Model for Facts {
 }
 
 impl Facts {
-    ghost use Rattle.std.specs.Prelude.{[], ◌<◌, length, OnOk, OnErr};
+    ghost use Rattle.std.specs.Prelude.{[], ◌<◌, ◌+◌, length, OnOk, OnErr};
     ghost use Rattle.proof_check.specs.Ordered.{HasPut};
 
     /// No fact. It takes no memory.
@@ -77,6 +77,8 @@ impl Facts {
     /// The fact with the others. After an error all is as before.
     pub fn put(&mut self, fact: Fact) -> Result<(), AllocError>
         ensures ok { OnOk result (HasPut fact self.old self.new) }
+        ensures long { OnOk result ((IsIn self.old fact → ⊥) → length self.new ≡ length self.old + 1) }
+        ensures order { OnOk result (AreInOrder self.new) }
         ensures err { OnErr result (self.new ≡ self.old) }
     {
         let place = place_of(&self.list, fact);

@@ -9,6 +9,7 @@ mod conclusions;
 mod derivation;
 mod facts;
 mod held;
+mod looking;
 mod premises;
 mod written;
 
