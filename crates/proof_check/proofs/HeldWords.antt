@@ -1,5 +1,5 @@
 -- Words that are held at an instance's ports.
-use Rattle.std.proofs.Common.{◌≡◌, ◌↔◌, ℕ, zero, suc, ◌+◌, ◌*◌, ◌<◌, ◌≤◌, ◌^◌, ◌⊎◌, inl, inr, Bool, true, false, IsTrue, List, [], ◌∷◌, length, Option, Some, None, is_some, MatchOption, slice_get, get_or, true≢false, refl, sym, ap, ap₂, subst, ◌∙◌, below_more, arith}
+use Rattle.std.proofs.Common.{◌≡◌, ℕ, zero, suc, ◌+◌, ◌*◌, ◌<◌, ◌≤◌, ◌⊎◌, inl, inr, Bool, true, false, List, [], ◌∷◌, length, Option, Some, None, is_some, slice_get, get_or, true≢false, refl, sym, ap, ap₂, subst, ◌∙◌, arith}
 use Rattle.std.proofs.lemmas.Bool.{cases_eq}
 use Rattle.std.proofs.lemmas.Option.{slice_get-get_or, slice_get_within}
 use Rattle.environment_sets.specs.Lists.{IsIn}
@@ -8,7 +8,6 @@ use Rattle.circuit_model.specs.declared.model.Fact.{Fact}
 use Rattle.circuit_model.specs.declared.model.Instance.{Instance}
 use Rattle.circuit_model.specs.Closure.{fact, AreHeld}
 use Rattle.circuit_model.specs.Inference.{Forces, Refutes, IsInference}
-use Rattle.circuit_model.specs.Derivation as derivations
 use Rattle.circuit_model.specs.Derivation.{number_of, facts_at}
 use Rattle.component_models.specs.Asking.{WordsFit}
 use Rattle.proof_check.specs.declared.written.TheConstants.{CHOICES}

@@ -1,13 +1,11 @@
 -- Facts that are put with others, one after another.
-use Rattle.std.proofs.Common.{◌≡◌, ◌↔◌, ℕ, ◌+◌, ◌<◌, ◌≤◌, ◌⊎◌, inl, inr, IsTrue, List, [], ◌∷◌, ◌++◌, length, take, map, Option, Some, None, slice_get, refl, sym, ap, subst, ◌∙◌, append_assoc, ap₂, arith}
+use Rattle.std.proofs.Common.{◌≡◌, ◌↔◌, ℕ, ◌+◌, ◌<◌, ◌≤◌, ◌⊎◌, inl, inr, IsTrue, List, [], ◌∷◌, ◌++◌, length, take, map, Some, slice_get, sym, ap, subst, ◌∙◌, append_assoc, ap₂, arith}
 use Rattle.std.proofs.lemmas.List.{take_more, length-take, map-append}
 use Rattle.std.proofs.lemmas.Option.{slice_get_within, get_or_from_slice_get}
-use Rattle.environment_sets.specs.Sets.{Set}
 use Rattle.environment_sets.specs.Lists.{IsIn}
 use Rattle.environment_sets.proofs.Listings.{IsIn-push, IsIn-front, IsIn-last}
 use Rattle.environment_sets.proofs.Membership.{IsIn-slice_get, slice_get-IsIn}
 use Rattle.circuit_model.specs.declared.chosen.Chosen.{Chosen}
-use Rattle.circuit_model.specs.declared.model.Cell.{Cell}
 use Rattle.circuit_model.specs.declared.model.Fact.{Fact}
 use Rattle.circuit_model.specs.declared.model.Assumption.TheVariants.{Reading}
 use Rattle.circuit_model.specs.Chosen.{chosen_places}

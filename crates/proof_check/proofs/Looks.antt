@@ -1,28 +1,24 @@
 -- Looking at all justifications, one after another.
-use Rattle.std.proofs.Common.{◌≡◌, ℕ, zero, suc, ◌+◌, ◌*◌, ◌<◌, ◌≤◌, ◌⊎◌, inl, inr, Bool, true, false, IsTrue, List, [], ◌∷◌, length, map, Option, Some, None, is_some, MatchOption, slice_get, true≢false, refl, sym, ap, subst, ◌∙◌, arith}
+use Rattle.std.proofs.Common.{◌≡◌, ℕ, zero, suc, ◌+◌, ◌<◌, ◌≤◌, ◌⊎◌, inl, inr, true, false, IsTrue, List, [], ◌∷◌, length, Option, Some, None, is_some, MatchOption, slice_get, true≢false, refl, sym, subst, ◌∙◌, arith}
 use Rattle.std.specs.Option.{option_map}
-use Rattle.std.specs.List.{All, flat_map, sum_by}
-use Rattle.std.proofs.lemmas.Bool.{cases_eq, cases_lt, false≢true}
-use Rattle.std.proofs.lemmas.List.Concat.{length-flat_map}
-use Rattle.std.proofs.lemmas.Option.{slice_get-map, slice_get_within, slice_get_past, get_or_from_slice_get}
+use Rattle.std.proofs.lemmas.Bool.{cases_eq, false≢true}
+use Rattle.std.proofs.lemmas.Option.{slice_get-map, slice_get_within}
 use Rattle.environment_sets.specs.Sets.{Set}
 use Rattle.environment_sets.specs.Lists.{IsIn}
-use Rattle.circuit_model.specs.declared.limits.TheConstants.{MOST_CYCLES, MOST_INNERS}
-use Rattle.circuit_model.specs.declared.model.Cell.{Cell}
 use Rattle.circuit_model.specs.declared.model.Fact.{Fact}
 use Rattle.circuit_model.specs.declared.model.Instance.{Instance}
 use Rattle.circuit_model.specs.declared.present.Component.{Component}
 use Rattle.circuit_model.specs.Closure.{fact, AreTwoWords}
-use Rattle.circuit_model.specs.Inference.{IsUnknownAt, Forces, Refutes}
+use Rattle.circuit_model.specs.Inference.{IsUnknownAt}
 use Rattle.circuit_model.specs.Diagnoses.{Place, AtPart}
 use Rattle.circuit_model.specs.Derivation as derivations
 use Rattle.circuit_model.specs.Derivation.{Justification, by_instance, number_of, facts_at, IsJustificationBefore, IsOfInstance, Justifies, JustifiesClash}
-use Rattle.circuit_model.specs.Present.{PresentView, width_of, circuit_of}
+use Rattle.circuit_model.specs.Present.{PresentView, circuit_of}
 use Rattle.proof_check.specs.declared.derivation.Ending.{Ending}
 use Rattle.proof_check.specs.declared.derivation.Ending.TheVariants as endings
 use Rattle.proof_check.specs.Written.{ending_of}
 use Rattle.proof_check.specs.Checking.{IsInstanceOf, IsPlaced}
-use Rattle.proof_check.specs.Rounds.{AreCalm, IsReady, Adds, IsForcedAt, IsQuietAt, IsRefutedAt, IsForcedBefore, AreLookedAt, from_here, IsFirstClash, Looks}
+use Rattle.proof_check.specs.Rounds.{AreCalm, IsReady, IsForcedAt, IsQuietAt, IsRefutedAt, IsForcedBefore, AreLookedAt, from_here, IsFirstClash, Looks}
 use Rattle.proof_check.specs.Ordered.{IsFirstPair}
 use Rattle.proof_check.specs.Turns.{AreForced, IsClashOfFacts}
 use Rattle.proof_check.proofs.HeldWords.{Adds-none, Adds-more, Adds-as}

@@ -1,5 +1,5 @@
 -- Facts in order: where one stands, and where two are of one cell.
-use Rattle.std.proofs.Common.{◌≡◌, ℕ, zero, suc, ◌+◌, ◌-◌, ◌<◌, ◌≤◌, ◌⊎◌, ◌↔◌, inl, inr, true, false, IsTrue, List, [], ◌∷◌, ◌++◌, length, take, drop, Option, Some, None, MatchOption, slice_get, true≢false, refl, sym, ap, ap₂, subst, ◌∙◌, arith}
+use Rattle.std.proofs.Common.{◌≡◌, ℕ, zero, suc, ◌+◌, ◌-◌, ◌<◌, ◌≤◌, ◌⊎◌, ◌↔◌, inl, inr, false, IsTrue, List, [], ◌∷◌, length, Option, Some, None, MatchOption, slice_get, true≢false, refl, sym, ap, ap₂, subst, ◌∙◌, arith}
 use Rattle.std.specs.List.{insert}
 use Rattle.std.proofs.lemmas.Bool.{cases_Bool, cases_lt, cases_order, cases_eq}
 use Rattle.std.proofs.lemmas.Bool.Decides.{nat_tests}
@@ -10,8 +10,8 @@ use Rattle.circuit_model.specs.declared.model.Cell.{Cell}
 use Rattle.circuit_model.specs.declared.model.Fact.{Fact}
 use Rattle.circuit_model.specs.Closure.{fact, AreTwoWords}
 use Rattle.circuit_model.specs.Derivation.{is_fact_before, AreFirstTwoWords}
-use Rattle.circuit_model.specs.Present.{is_cell, is_cell_before}
-use Rattle.circuit_model.proofs.SameCells.{cell_by, same_cell}
+use Rattle.circuit_model.specs.Present.{is_cell_before}
+use Rattle.circuit_model.proofs.SameCells.{cell_by}
 use Rattle.proof_check.specs.Ordered.{AreInOrder, AreBefore, AreFrom, IsPlaceOf, HasPut}
 
 -- no place without an element stands before one with an element

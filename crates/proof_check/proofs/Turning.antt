@@ -1,5 +1,5 @@
 -- The rounds of a closing, one after another.
-use Rattle.std.proofs.Common.{◌≡◌, ◌↔◌, ℕ, zero, suc, ◌+◌, ◌*◌, ◌<◌, ◌≤◌, ◌⊎◌, inl, inr, IsTrue, List, [], ◌∷◌, ◌++◌, length, map, Option, Some, None, MatchOption, slice_get, refl, sym, ap, ap₂, subst, ◌∙◌, arith}
+use Rattle.std.proofs.Common.{◌≡◌, ◌↔◌, ℕ, zero, suc, ◌+◌, ◌*◌, ◌<◌, ◌≤◌, ◌⊎◌, inl, inr, IsTrue, List, [], ◌∷◌, ◌++◌, length, map, Some, None, slice_get, refl, sym, ap, ap₂, subst, arith}
 use Rattle.std.specs.Option.{option_map}
 use Rattle.std.proofs.lemmas.Bool.{cases_eq, cases_lt}
 use Rattle.std.proofs.lemmas.Nat.{mul-add-lt}
@@ -10,30 +10,28 @@ use Rattle.environment_sets.proofs.Sorting.{rising_map}
 use Rattle.circuit_model.specs.declared.limits.TheConstants.{MOST_CYCLES, MOST_NETS}
 use Rattle.circuit_model.specs.declared.model.Cell.{Cell}
 use Rattle.circuit_model.specs.declared.model.Fact.{Fact}
-use Rattle.circuit_model.specs.declared.model.Assumption.TheVariants.{Part, Reading}
-use Rattle.circuit_model.specs.Closure.{fact, AreHeld, AreTwoWords, IsForced, IsRefuted, ClashesAt}
-use Rattle.circuit_model.specs.Stock.{IsRefutedBy}
+use Rattle.circuit_model.specs.declared.model.Assumption.TheVariants.{Part}
+use Rattle.circuit_model.specs.Closure.{fact, AreTwoWords, IsForced, IsRefuted, ClashesAt}
 use Rattle.circuit_model.specs.Diagnoses.{Place, AtPart}
 use Rattle.circuit_model.specs.Decided.{IsLastRound}
 use Rattle.circuit_model.specs.Derivation as derivations
 use Rattle.circuit_model.specs.Derivation.{Justification, by_instance, number_of, facts_at, is_fact_before, IsFirst, IsFirstRound, AreFirstTwoWords, IsAssumed, HoldsAt, IsRoundOf, IsOfInstance, Justifies, JustifiesClash, IsClashOf}
-use Rattle.circuit_model.specs.Present.{PresentView, IsLawful, width_of, circuit_of}
+use Rattle.circuit_model.specs.Present.{PresentView, IsLawful, circuit_of}
 use Rattle.circuit_model.specs.Whole.{stock}
 use Rattle.circuit_model.proofs.Decided.{last_rounds_decide_clashes}
-use Rattle.circuit_model.proofs.Monotony.{AreHeld-map, AreTwoWords-map, IsForced-map}
+use Rattle.circuit_model.proofs.Monotony.{AreHeld-map, AreTwoWords-map}
 use Rattle.circuit_model.proofs.Readings.{Measured, measured_at, IsFactOf-at}
 use Rattle.circuit_model.proofs.Rounds.{Holds-later, Follows-within}
 use Rattle.proof_check.specs.declared.derivation.Ending.{Ending}
-use Rattle.proof_check.specs.declared.derivation.Ending.TheVariants as endings
 use Rattle.proof_check.specs.Written.{ending_of}
 use Rattle.proof_check.specs.Checking.{AreAlike, AllFit}
-use Rattle.proof_check.specs.Closing.{Timed, ClosedView, IsEarlier, Closes}
+use Rattle.proof_check.specs.Closing.{Timed, IsEarlier, Closes}
 use Rattle.proof_check.specs.Ordered.{AreInOrder}
 use Rattle.proof_check.specs.Turns.{at_round, HasAll, AreSeparate, IsClashOfFacts, AreForced, HoldsBefore, AreAtRound}
 use Rattle.proof_check.proofs.Assumed.{HasPart, part_assumed, HasReading, reading_assumed}
 use Rattle.proof_check.proofs.Fitting.{follows_fits, cells_assumed}
 use Rattle.proof_check.proofs.Instances.{AreCells}
-use Rattle.proof_check.proofs.Ordered.{IsBehind, behind, not_before_itself}
+use Rattle.proof_check.proofs.Ordered.{IsBehind, behind}
 
 -- an order that follows from another one, for the elements of the list
 pub IsRising-as : {X : Type 0} (before after : X → X → Type 0) (xs : List X) → ((x y : X) → IsIn xs x → IsIn xs y → before x y → after x y) → IsRising before xs → IsRising after xs

@@ -1,8 +1,7 @@
 -- Facts in order.
-use Rattle.std.specs.Prelude.{◌≡◌, ℕ, suc, ◌<◌, ◌≤◌, ◌⊎◌, ◌↔◌, false, IsTrue, List, length, Some, slice_get}
+use Rattle.std.specs.Prelude.{◌≡◌, ℕ, ◌<◌, ◌≤◌, ◌⊎◌, ◌↔◌, false, IsTrue, List, length, Some, slice_get}
 use Rattle.environment_sets.specs.Lists.{IsIn, IsRising}
 use Rattle.circuit_model.specs.declared.model.Fact.{Fact}
-use Rattle.circuit_model.specs.Closure.{AreTwoWords}
 use Rattle.circuit_model.specs.Derivation.{is_fact_before, AreFirstTwoWords}
 use Rattle.proof_check.specs.declared.derivation.Ending.{Ending}
 use Rattle.proof_check.specs.declared.derivation.Ending.TheVariants.{Holds, TwoValues, Refuted}

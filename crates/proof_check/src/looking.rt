@@ -38,11 +38,7 @@ pub fn look(round: &Round, found: &mut Facts) -> Result<Option<Ending>, AllocErr
 }
 
 /// Looks at the component, if it is one of the environment.
-fn look_at_part(
-    round: &Round,
-    part: u16,
-    found: &mut Facts,
-) -> Result<Option<Ending>, AllocError>
+fn look_at_part(round: &Round, part: u16, found: &mut Facts) -> Result<Option<Ending>, AllocError>
     requires calm { AreCalm round.now.present.now round.now.held.now }
     requires part { part < length round.now.present.now.parts }
     requires looked { AreLookedAt round.now.present.now (chosen_places round.now.chosen.now) round.now.held.now (from_here part 0 0) found.old }

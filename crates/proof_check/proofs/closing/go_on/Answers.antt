@@ -1,4 +1,4 @@
-use Rattle.std.proofs.Common.{◌≡◌, ◌+◌, ◌<◌, Option, Some, None, MatchOption, length, refl, sym, ap, subst, ◌∙◌, arith}
+use Rattle.std.proofs.Common.{◌+◌, refl, arith}
 use Rattle.std.proofs.lemmas.Option.{MatchOption-at_some, MatchOption-at_none}
 use Rattle.circuit_model.specs.Chosen.{chosen_places}
 use Rattle.proof_check.specs.declared.derivation.Ending.{Ending}
@@ -34,8 +34,8 @@ overflow_add-closing c = omega (arith, round_low c.args.present.now (chosen_plac
 pub returns : goal.returns
 returns c = (
   goes_on_at c.args.present.now (chosen_places c.args.chosen.now) c.args.closing.now.timed.items c.args.closing.now.held c.args.closing.now.found c.args.closing.now.round c.requires
-  c.hold.new.timed.items c.hold.new.held c.in_ok-hold.ensures.listed c.in_ok-hold.ensures.held c.in_ok-hold.ensures.long c.forced.new.found
-  (MatchOption-at_none (AreForced c.args.present.now (chosen_places c.args.chosen.now) c.hold.new.held c.forced.new.found) (λ (ending : Ending). IsClashOfFacts c.args.present.now (chosen_places c.args.chosen.now) c.hold.new.held (ending_of ending)) c.in_default.is c.in_ok-clash.ensures)
-  (c.args.closing.now.round + 1) refl c.in_ok-hold.ensures.order c.len.ensures.order (omega (arith, c.len.ensures.value)),
+      c.hold.new.timed.items c.hold.new.held c.in_ok-hold.ensures.listed c.in_ok-hold.ensures.held c.in_ok-hold.ensures.long c.forced.new.found
+      (MatchOption-at_none (AreForced c.args.present.now (chosen_places c.args.chosen.now) c.hold.new.held c.forced.new.found) (λ (ending : Ending). IsClashOfFacts c.args.present.now (chosen_places c.args.chosen.now) c.hold.new.held (ending_of ending)) c.in_default.is c.in_ok-clash.ensures)
+      (c.args.closing.now.round + 1) refl c.in_ok-hold.ensures.order c.len.ensures.order (omega (arith, c.len.ensures.value)),
   refl,
 )

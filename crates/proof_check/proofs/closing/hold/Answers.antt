@@ -1,5 +1,4 @@
-use Rattle.std.proofs.Common.{◌≡◌, ◌+◌, List, length, take, arith}
-use Rattle.circuit_model.specs.declared.model.Fact.{Fact}
+use Rattle.std.proofs.Common.{arith}
 use Rattle.proof_check.proofs.Holding.{listed_more, held_more, not_held}
 use Rattle.proof_check.proofs.closing.hold.Goals as goal
 

@@ -1,5 +1,5 @@
-use Rattle.std.proofs.Common.{refl, true≢false, sym, ◌∙◌}
-use Rattle.proof_check.proofs.HeldWords.{Adds-no_word, Adds-held, Adds-put}
+use Rattle.std.proofs.Common.{true≢false, sym, ◌∙◌}
+use Rattle.proof_check.proofs.HeldWords.{Adds-put}
 use Rattle.proof_check.proofs.held.add_word.Goals as goal
 
 pub returns : goal.returns

@@ -1,4 +1,4 @@
-use Rattle.std.proofs.Common.{get_or, [], sym, ◌∙◌, ◌≡◌, ◌<◌, arith}
+use Rattle.std.proofs.Common.{get_or, [], sym, ◌∙◌, arith}
 use Rattle.proof_check.specs.declared.written.TheConstants.{CHOICES}
 use Rattle.proof_check.proofs.HeldWords.{number_of-kept, AreHeld-kept}
 use Rattle.proof_check.proofs.held.words_held.Goals as goal

@@ -1,11 +1,9 @@
-use Rattle.std.proofs.Common.{◌≡◌, List, Some, slice_get, map, true≢false, sym, ap, ◌∙◌, arith}
+use Rattle.std.proofs.Common.{true≢false, sym, ap, ◌∙◌, arith}
 use Rattle.std.specs.Option.{option_map}
 use Rattle.std.proofs.lemmas.Option.{slice_get-map}
 use Rattle.environment_sets.proofs.Membership.{IsIn-slice_get}
-use Rattle.circuit_model.specs.declared.model.Instance.{Instance}
 use Rattle.circuit_model.specs.declared.present.Component.{Component}
 use Rattle.circuit_model.specs.Chosen.{chosen_places}
-use Rattle.circuit_model.specs.Present.{circuit_of}
 use Rattle.proof_check.proofs.Assumed.{position_chosen}
 use Rattle.proof_check.proofs.Instances.{placed}
 use Rattle.proof_check.proofs.Lengths.{length-part}

@@ -1,4 +1,4 @@
-use Rattle.std.proofs.Common.{◌≡◌, ◌<◌, inl, inr, List, slice_get, Some, true≢false, sym, subst, ◌∙◌}
+use Rattle.std.proofs.Common.{◌≡◌, inl, inr, List, slice_get, Some, true≢false, sym, subst, ◌∙◌}
 use Rattle.std.specs.List.{insert}
 use Rattle.environment_sets.specs.Lists.{IsIn}
 use Rattle.environment_sets.proofs.Membership.{IsIn-slice_get}
@@ -30,7 +30,7 @@ invariant_of-self-2 c =
     let place : IsPlaceOf c.self.inside.list.items c.args.fact c.place_of-place.result = subst (λ (xs : List Fact). IsPlaceOf xs c.args.fact c.place_of-place.result) c.deref.ensures.value c.place_of-place.ensures in
     let R : List Fact → Type 0 = λ new. AreInOrder new in
     subst R (sym items) (AreInOrder-insert c.self.inside.list.items c.args.fact c.place_of-place.result c.self.invariant place.within place.before place.after (λ e.
-        true≢false (sym (c.stands_at.ensures.1 (subst (λ (xs : List Fact). slice_get xs c.place_of-place.result ≡ Some c.args.fact) (sym c.deref-2.ensures.value) e)) ∙ c.if-stands_at.false)))
+    true≢false (sym (c.stands_at.ensures.1 (subst (λ (xs : List Fact). slice_get xs c.place_of-place.result ≡ Some c.args.fact) (sym c.deref-2.ensures.value) e)) ∙ c.if-stands_at.false)))
 
 pub returns-then-stands_at-clause-long : goal.returns-then-stands_at-clause-long
 returns-then-stands_at-clause-long c = λ out.
@@ -44,4 +44,4 @@ returns-clause-order c =
     let place : IsPlaceOf c.self.inside.list.items c.args.fact c.place_of-place.result = subst (λ (xs : List Fact). IsPlaceOf xs c.args.fact c.place_of-place.result) c.deref.ensures.value c.place_of-place.ensures in
     let R : List Fact → Type 0 = λ new. AreInOrder new in
     subst R (sym items) (AreInOrder-insert c.self.inside.list.items c.args.fact c.place_of-place.result c.self.invariant place.within place.before place.after (λ e.
-        true≢false (sym (c.stands_at.ensures.1 (subst (λ (xs : List Fact). slice_get xs c.place_of-place.result ≡ Some c.args.fact) (sym c.deref-2.ensures.value) e)) ∙ c.if-stands_at.false)))
+    true≢false (sym (c.stands_at.ensures.1 (subst (λ (xs : List Fact). slice_get xs c.place_of-place.result ≡ Some c.args.fact) (sym c.deref-2.ensures.value) e)) ∙ c.if-stands_at.false)))
