@@ -7,6 +7,9 @@ mod closed;
 mod closing;
 pub mod conclusions;
 mod derivation;
+mod facts;
+mod held;
+mod looking;
 mod premises;
 mod written;
 
