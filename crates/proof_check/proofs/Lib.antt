@@ -5,3 +5,9 @@ pub mod Fitting
 pub mod Told
 pub mod Nothing
 pub mod Valid
+pub mod Ordered
+pub mod HeldWords
+pub mod Looks
+pub mod Lengths
+pub mod Turning
+pub mod Holding

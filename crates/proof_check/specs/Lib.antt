@@ -1,2 +1,6 @@
 pub mod Written
 pub mod Checking
+pub mod Closing
+pub mod Ordered
+pub mod Rounds
+pub mod Turns

@@ -81,7 +81,7 @@ fn is_word(word: Option<u64>, value: u64) -> bool
 }
 
 /// Whether the cell is one of these.
-fn has_cell(cells: &Cells, cell: Cell) -> bool
+pub fn has_cell(cells: &Cells, cell: Cell) -> bool
     ensures { IsTrue result ↔ IsIn cells.now cell }
 {
     for i in 0..cells.len() {

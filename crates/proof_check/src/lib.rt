@@ -3,10 +3,18 @@
 #![tactic(auto)]
 
 mod checker;
-mod conclusions;
+mod closed;
+mod closing;
+pub mod conclusions;
 mod derivation;
+mod facts;
+mod held;
+mod looking;
 mod premises;
 mod written;
 
 pub use checker::check;
+pub use closed::Closed;
+pub use closing::close;
 pub use derivation::{Derivation, Ending, Goal, Step, Steps};
+pub use written::{facts_known, number_of};

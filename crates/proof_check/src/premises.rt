@@ -72,7 +72,7 @@ fn instance_of(position: u16, place: u16, present: &Present, chosen: &Chosen) ->
 }
 
 /// Whether the position is one of these.
-fn has_place(places: &Places, position: u16) -> bool
+pub fn has_place(places: &Places, position: u16) -> bool
     ensures { IsTrue result ↔ IsIn places.now position }
 {
     for i in 0..places.len() {

@@ -1,0 +1,10 @@
+pub mod Listed
+pub mod Choices
+pub mod Forced
+pub mod Short
+pub mod Closings
+pub mod Joined
+pub mod Supported
+pub mod Marking
+pub mod Walked
+pub mod Explained
