@@ -6,18 +6,15 @@ ghost use Rattle.bench_io.specs.Writing.{Writes};
 ghost use Rattle.circuit_model.specs.declared.model.Fact.{Fact};
 ghost use Rattle.circuit_model.specs.Derivation as derivations;
 ghost use Rattle.environment_sets.specs.Lists.{IsIn};
-ghost use Rattle.environment_sets.specs.Members.{members};
 ghost use Rattle.proof_check.specs.Written.{given, step_of, ending_of, derivation_of};
-ghost use Rattle.standing_view.specs.View.{places};
-ghost use Rattle.answer_text.specs.Labels.{StandsForPresent};
+ghost use Rattle.circuit_model.specs.Chosen.{chosen_places};
 ghost use Rattle.answer_text.specs.Derivations.{part_name, facts_text, from_text, step_line, step_lines, ending_line, derivation_lines, under_line, HasNet, AreNamed, IsNamedStep, IsNamedEnding, CanBeWritten};
 
-use crate::texts::{put_environment, put_fact};
+use crate::chosen::put_chosen;
+use crate::texts::put_fact;
 use bench_io::{Failed, Sink, put};
-use circuit_model::{Cell, Fact, Present};
-use environment_sets::Env;
+use circuit_model::{Cell, Chosen, Fact, Present};
 use proof_check::{Derivation, Ending, Step, Steps};
-use standing_view::Standing;
 
 fn put_part_name<K: Sink>(sink: &mut K, failed: bool, present: &Present, position: u16) -> bool
     requires { position < length present.now.parts }
@@ -276,14 +273,12 @@ fn put_under<K: Sink>(
     sink: &mut K,
     failed: bool,
     present: &Present,
-    standing: &Standing,
-    env: &Env,
+    chosen: &Chosen,
 ) -> bool
-    requires { StandsForPresent standing.now present.now }
-    ensures { Puts failed result (K.told sink.old) (K.told sink.new) (under_line present.now (places standing.now (members env.now))) }
+    ensures { Puts failed result (K.told sink.old) (K.told sink.new) (under_line present.now (chosen_places chosen.now)) }
 {
     let failed = put(sink, failed, b"under ");
-    let failed = put_environment(sink, failed, present, standing, env);
+    let failed = put_chosen(sink, failed, present, chosen);
     put(sink, failed, b"\n")
 }
 
@@ -304,17 +299,15 @@ fn put_derivation<K: Sink>(
 /// The environment, the lines of a derivation under it, and `ok`.
 pub fn write_derivation<K: Sink>(
     present: &Present,
-    standing: &Standing,
-    env: &Env,
+    chosen: &Chosen,
     derivation: &Derivation,
     sink: &mut K,
 ) -> Result<(), Failed>
-    requires stands { StandsForPresent standing.now present.now }
     requires named { CanBeWritten present.now (derivation_of derivation.now) }
     ensures { Writes (K.told sink.old) (K.told sink.new) result
-        (under_line present.now (places standing.now (members env.now)) ++ derivation_lines present.now (derivation_of derivation.now) ++ codes "ok\n") }
+        (under_line present.now (chosen_places chosen.now) ++ derivation_lines present.now (derivation_of derivation.now) ++ codes "ok\n") }
 {
-    let failed = put_under(sink, false, present, standing, env);
+    let failed = put_under(sink, false, present, chosen);
     let failed = put_derivation(sink, failed, present, derivation);
     if put(sink, failed, b"ok\n") {
         return Err(Failed);

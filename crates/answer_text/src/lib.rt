@@ -1,6 +1,7 @@
 //! The texts of answers: labels, sets of components, next measurements and derivations, written without memory.
 #![tactic(auto)]
 
+mod chosen;
 mod derivations;
 mod labels;
 mod laws;

@@ -46,8 +46,8 @@ fn put_parts<K: Sink>(
     failed
 }
 
-// A cell of a list, after a comma unless it is the first.
-fn put_next_cell<K: Sink>(
+/// A cell of a list, after a comma unless it is the first.
+pub fn put_next_cell<K: Sink>(
     sink: &mut K,
     failed: bool,
     is_first: bool,
