@@ -1,9 +1,8 @@
 -- What changes make of what stands and is parked.
-use Rattle.std.proofs.Common.{◌≡◌, ◌⊎◌, ◌==◌, ℕ, zero, suc, ◌+◌, ◌-◌, ◌≤◌, ◌<◌, Bool, true, false, not, inl, inr, List, [], ◌∷◌, length, map, take, drop, filter, Option, Some, None, IsSome, refl, sym, ap, subst, ◌∙◌, arith}
+use Rattle.std.proofs.Common.{◌≡◌, ◌⊎◌, ◌==◌, ℕ, zero, suc, true, false, not, inl, inr, List, [], ◌∷◌, map, drop, filter, Option, Some, None, refl, sym, ap, subst, ◌∙◌}
 use Rattle.std.specs.List.{slice_get, cons_option}
 use Rattle.std.specs.Option.{option_map_or}
 use Rattle.circuit_model.specs.Closure.{fact}
-use Rattle.circuit_model.specs.declared.limits.TheConstants.{MOST_EARLIER}
 use Rattle.circuit_model.specs.declared.model.Assumption.{Assumption}
 use Rattle.circuit_model.specs.declared.model.Assumption.TheVariants.{Part}
 use Rattle.circuit_model.specs.declared.model.Cell.{Cell}
@@ -12,18 +11,15 @@ use Rattle.circuit_model.specs.declared.present.Component.{Component}
 use Rattle.circuit_model.specs.Present.{PresentView, IsLawful, reading_in, with_standing, without_standing, without_last_part, change_at}
 use Rattle.netlist_text.specs.declared.requests.Change.{Change}
 use Rattle.netlist_text.specs.declared.requests.Change.TheVariants.{Net, Add, Measure, Cycles, Retract, Undo, Cost, Stuck, Acts, Define, Pin, Inside, UseBlock}
-use Rattle.netlist_text.specs.Found.{IsMade}
-use Rattle.netlist_text.specs.Lookups.{cell_of}
 use Rattle.netlist_text.specs.Placing.{changed, adds_part}
 use Rattle.present_history.specs.declared.undoing.Undoing.{Undoing}
 use Rattle.present_history.specs.declared.undoing.Undoing.TheVariants as back
-use Rattle.present_history.specs.Earlier.{retracted, retracted_by, earlier_of}
-use Rattle.present_history.specs.Undoing.{undoing_of, undone, reading_there}
-use Rattle.present_history.proofs.TakenBack.{undoing_of-measure, undoing_of-retract}
+use Rattle.present_history.specs.Earlier.{retracted, retracted_by}
+use Rattle.present_history.specs.Undoing.{undoing_of, undone}
 use Rattle.present_history.proofs.Standing.{may_stand, stands_again}
 use Rattle.environment_sets.specs.Lists.{IsIn}
 use Rattle.standing_view.specs.View.{without_fact}
-use Rattle.standing_changes.specs.Remembered.{StandsWith, StandsRoomy}
+use Rattle.standing_changes.specs.Remembered.{StandsWith}
 use Rattle.standing_changes.specs.declared.remembered.Remembered.{Remembered}
 use Rattle.standing_changes.proofs.Parked.{parked_alike, same_parts_and_readings_stand}
 use Rattle.session_undo.specs.Remembering.{parked}

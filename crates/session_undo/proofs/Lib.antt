@@ -4,3 +4,4 @@ pub mod Noting
 pub mod Changing
 pub mod Remembered
 pub mod Made
+pub mod Whys

@@ -1,5 +1,5 @@
 -- What a change that was placed, or refused, makes of the state.
-use Rattle.std.proofs.Common.{◌≡◌, ◌⊎◌, ◌+◌, ℕ, ◌≤◌, Bool, true, false, not, inl, inr, List, [], ◌∷◌, length, take, filter, Option, Some, None, IsSome, unwrap_or, refl, sym, ap, subst, ◌∙◌, arith}
+use Rattle.std.proofs.Common.{◌≡◌, ◌+◌, ℕ, ◌≤◌, Bool, true, false, not, inl, inr, List, ◌∷◌, length, take, filter, Option, Some, None, IsSome, unwrap_or, refl, sym, ap, subst, ◌∙◌, arith}
 use Rattle.std.proofs.lemmas.List.Filters.{length-filter_both}
 use Rattle.circuit_model.specs.Closure.{fact}
 use Rattle.circuit_model.specs.declared.limits.TheConstants.{MOST_EARLIER}
@@ -26,17 +26,15 @@ use Rattle.standing_changes.specs.Remembered.{StandsWith, StandsRoomy, IsRemembe
 use Rattle.standing_changes.specs.declared.remembered.Remembered.{Remembered}
 use Rattle.standing_changes.specs.declared.remembered.Stop as standing
 use Rattle.standing_changes.specs.declared.remembered.Stop.TheVariants as standing_stop
-use Rattle.session_undo.specs.Checks.{checks_of, first_refusal, late_checks_of, checks_of_load, IsFirstCause, HasNoCause}
-use Rattle.session_undo.specs.Presents.{State, after, with_present}
+use Rattle.session_undo.specs.Presents.{State, after}
 use Rattle.session_undo.specs.Remembering.{parked, IsKept}
-use Rattle.session_undo.specs.Serving.{IsStopFor, IsStoppedBy, IsFree, RemembersNothing, stop_of}
-use Rattle.session_undo.specs.Steps.{wants_memory}
+use Rattle.session_undo.specs.Serving.{IsStopFor, IsStoppedBy, IsFree, stop_of}
 use Rattle.session_undo.specs.declared.refusals.Stop.{Stop}
 use Rattle.present_history.proofs.Checked.{none_applies, nothing_there, something_there}
 use Rattle.present_history.proofs.Standing.{taken_out, reading_in-put}
 use Rattle.standing_view.specs.View.{without_fact}
 use Rattle.session_undo.proofs.Changing.{undoing_adds, measured_parked, retracted_parked}
-use Rattle.session_undo.proofs.Refusing.{of_present, goes_on, free_of, stopped, no_late, load_checked, one_cause, wants_adding}
+use Rattle.session_undo.proofs.Refusing.{goes_on, free_of, stopped, load_checked, one_cause, wants_adding}
 use Rattle.session_undo.proofs.Remembered.{remembered}
 
 -- the state with this present, and the earlier ones to which the changes go back
@@ -91,7 +89,7 @@ pub stopped_adding : (s t : PresentView) (us : List Undoing) (change : Change) �
 stopped_adding s t us change of adds h standing_stop.LoadTooLarge over =
     let Q : PresentView → Type 0 = IsOverloaded in
     inr (free_of (state_at s us) change of h.free, rw (load_checked (state_at s us) change adds) (inl (subst Q h.made (over refl), refl)))
-stopped_adding s t us change of adds h standing_stop.OutOfMemory over = record { free = free_of (state_at s us) change of h.free; wants = wants_adding (state_at s us) change adds }
+stopped_adding s t us change of adds h standing_stop.OutOfMemory over = record { free = free_of (state_at s us) change of h.free; uncaused = tt; wants = wants_adding (state_at s us) change adds }
 
 -- a component that was placed
 pub free_adding : (s t : PresentView) (us : List Undoing) (change : Change) → IsOfPresent change → adds_part change ≡ true → IsMade s change t → IsWithinLoad t → IsFree (state_at s us) (request.Change change)
@@ -112,6 +110,7 @@ module _ (s t : PresentView) (us : List Undoing) (net : List ℕ) (cycle value :
   stopped_measuring r lawful kept standing_stop.LoadTooLarge over new = let Q : PresentView → Type 0 = IsOverloaded in inr (free_of (state_at s us) reading tt h.free, inl (subst Q h.made (over refl), refl))
   stopped_measuring r lawful kept standing_stop.OutOfMemory over new = record {
     free = free_of (state_at s us) reading tt h.free;
+    uncaused = tt;
     wants = never_stood (some_measures (earlier_of s us) (fact (cell_of s net cycle) value)) (λ stood. new refl (remembered s us r lawful kept (fact (cell_of s net cycle) value) (inr stood)));
   }
     where

@@ -1,5 +1,5 @@
 -- Checks on a present as those of a line.
-use Rattle.std.proofs.Common.{ℕ, nat_lt, ◌≡◌, ◌∙◌, inl, inr, Bool, true, false, if◌then◌else◌, not, List, [], ◌∷◌, ◌++◌, Option, Some, None, refl, sym, ap, subst}
+use Rattle.std.proofs.Common.{nat_lt, ◌≡◌, ◌∙◌, inl, inr, Bool, true, false, if◌then◌else◌, List, [], ◌∷◌, ◌++◌, Option, Some, None, refl, sym, ap, subst}
 use Rattle.std.specs.Option.{option_map}
 use Rattle.circuit_model.specs.Present.{PresentView}
 use Rattle.netlist_text.specs.Checks as placing
@@ -207,5 +207,5 @@ module _ (s : State) (change : Change) (h : IsOfPresent change) where
       inl (ap first_refusal (of_present s change h) ∙ (some_first (placing.checks_of_change s.present change) m first ∙ ap (λ (x : Refusal). Some x) (sym is.1)))
   stopped m t r stop.OutOfMemory is = elim r.by as (λ _. IsStoppedBy s (request.Change change) stop.OutOfMemory) [
     | inl e ↦ absurd (never_memory s.present change (e ∙ ap (λ (x : Misfit). Some x) is))
-    | inr none ↦ record { free = free_of none.free; wants = wants s change h none.takes }
+    | inr none ↦ record { free = free_of none.free; uncaused = tt; wants = wants s change h none.takes }
   ]

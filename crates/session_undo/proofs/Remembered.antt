@@ -1,5 +1,5 @@
 -- What a session remembers, told by its presents.
-use Rattle.std.proofs.Common.{◌≡◌, ◌⊎◌, ◌↔◌, inl, inr, Bool, true, false, List, refl}
+use Rattle.std.proofs.Common.{◌≡◌, ◌⊎◌, inl, inr, true, false, List, refl}
 use Rattle.circuit_model.specs.declared.model.Fact.{Fact}
 use Rattle.circuit_model.specs.Present.{PresentView, IsLawful}
 use Rattle.present_history.specs.declared.undoing.Undoing.{Undoing}
@@ -9,7 +9,6 @@ use Rattle.present_history.proofs.Standing.{IsIn-measured, measured-IsIn}
 use Rattle.standing_changes.specs.Remembered.{IsRemembered}
 use Rattle.standing_changes.specs.declared.remembered.Remembered.{Remembered}
 use Rattle.standing_changes.proofs.Parked.{remembered_readings}
-use Rattle.session_undo.specs.Presents.{State}
 use Rattle.session_undo.specs.Remembering.{parked, IsKept, Remembers}
 use Rattle.session_undo.proofs.Parked.{aside, is_parked, never_both}
 

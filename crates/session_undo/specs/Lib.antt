@@ -6,3 +6,4 @@ pub mod Steps
 pub mod Answers
 pub mod Serving
 pub mod Remembering
+pub mod Explaining

@@ -13,6 +13,7 @@ use diagnosis_order::DiagnosisStop;
 use environment_sets::EnvList;
 use netlist_text::{Query, check_cell};
 use standing_diagnoses::{conflicts_of, diagnoses_of, first_of};
+use standing_probe::probe_of;
 
 impl Session {
     /// Answers a question. Nothing that contracts see changes, and nothing is remembered or forgotten.
@@ -27,11 +28,12 @@ impl Session {
             Query::Diagnose => self.diagnoses(),
             Query::Show => Ok(Answer::Show),
             Query::First { number } => self.first(*number),
-            Query::Probe
-            | Query::Explain { .. }
-            | Query::Why { .. }
-            | Query::Modes { .. }
-            | Query::OpenBlock { .. } => Err(Stop::Refused(Refusal::NotBuilt)),
+            Query::Probe => self.probe(),
+            Query::Explain { net, cycle, value } => self.explain(net, *cycle, *value),
+            Query::Why { number } => self.why(*number),
+            Query::Modes { .. } | Query::OpenBlock { .. } => {
+                Err(Stop::Refused(Refusal::NotBuilt))
+            }
         }
     }
 
@@ -95,6 +97,43 @@ impl Session {
         };
         match first_of(self.alloc, &self.present, &conflicts, number as usize) {
             Ok(found) => Ok(Answer::Diagnoses(EnvList::of(found))),
+            Err(_) => Err(Stop::OutOfMemory),
+        }
+    }
+
+    // The best next measurement.
+    fn probe(&mut self) -> Result<Answer, Stop>
+        ensures answers { Asked self.old query.Probe result }
+        ensures same { self.new ≡ self.old }
+        ensures writable { IfOk result (IsWritable self.new) }
+    {
+        let Ok(conflicts) = conflicts_of(
+            self.alloc,
+            &self.remembered.engine,
+            &self.remembered.standing,
+        ) else {
+            return Err(Stop::OutOfMemory);
+        };
+        let diagnoses = match diagnoses_of(
+            self.alloc,
+            &mut self.hitter,
+            &self.present,
+            &conflicts,
+        ) {
+            Ok(found) => found,
+            Err(DiagnosisStop::TooMany { .. }) => {
+                return Err(Stop::Refused(Refusal::TooManyDiagnoses));
+            }
+            Err(DiagnosisStop::OutOfMemory) => return Err(Stop::OutOfMemory),
+        };
+        match probe_of(
+            self.alloc,
+            &self.remembered.engine,
+            &self.remembered.standing,
+            &self.present,
+            &diagnoses,
+        ) {
+            Ok(best) => Ok(Answer::Probe(best)),
             Err(_) => Err(Stop::OutOfMemory),
         }
     }

@@ -4,6 +4,7 @@
 mod answers;
 mod asking;
 mod changes;
+mod explaining;
 mod refusals;
 mod remembering;
 mod session;

@@ -18,6 +18,10 @@ pub enum Refusal {
     LoadTooLarge,
     /// There is no earlier present.
     NothingToUndo,
+    /// The label of the fact is empty.
+    NoSuchValue,
+    /// There is no conflict of that number.
+    NoSuchConflict,
     /// There are more diagnoses than are listed.
     TooManyDiagnoses,
     /// The number of diagnoses that is asked for is 0, or too large.
@@ -36,7 +40,7 @@ pub enum Stop {
 }
 
 impl Refusal {
-    /// The number that the reply has: from 10 to 15, that of a misfit, 34, 42, 45, 47 or 50.
+    /// The number that the reply has: from 10 to 15, that of a misfit, 34, 42 to 45, 47 or 50.
     pub fn number(&self) -> u64
         ensures { result ≡ number_of self.now }
     {
@@ -46,6 +50,8 @@ impl Refusal {
             Refusal::Misfit(misfit) => u64::from(misfit.number()),
             Refusal::LoadTooLarge => 34,
             Refusal::NothingToUndo => 42,
+            Refusal::NoSuchValue => 43,
+            Refusal::NoSuchConflict => 44,
             Refusal::TooManyDiagnoses => 45,
             Refusal::BadCount => 47,
             Refusal::NotBuilt => 50,
@@ -62,6 +68,8 @@ impl Refusal {
             Refusal::Misfit(misfit) => misfit.text(),
             Refusal::LoadTooLarge => b"load too large",
             Refusal::NothingToUndo => b"nothing to undo",
+            Refusal::NoSuchValue => b"no such value",
+            Refusal::NoSuchConflict => b"no such conflict",
             Refusal::TooManyDiagnoses => b"too many diagnoses",
             Refusal::BadCount => b"bad count",
             Refusal::NotBuilt => b"not built",

@@ -1,4 +1,4 @@
-use Rattle.std.proofs.Common.{◌≡◌, ◌∷◌, ◌≤◌, inl, inr, true, suc, List, length, take, Some, None, sym, subst, ◌∙◌, arith}
+use Rattle.std.proofs.Common.{◌≡◌, ◌∷◌, ◌≤◌, inl, inr, true, suc, List, length, take, Some, sym, subst, ◌∙◌, arith}
 use Rattle.std.specs.List.{slice_get}
 use Rattle.circuit_model.specs.declared.limits.TheConstants.{MOST_EARLIER}
 use Rattle.circuit_model.specs.declared.model.Fact.{Fact}

@@ -1,4 +1,4 @@
-use Rattle.std.proofs.Common.{◌≡◌, ◌∷◌, List, Some, inl, inr, refl, sym, ◌∙◌}
+use Rattle.std.proofs.Common.{◌≡◌, ◌∷◌, Some, inl, inr, refl, sym, ◌∙◌}
 use Rattle.assumption_slots.specs.Slots.{stock}
 use Rattle.circuit_model.specs.Closure.{fact}
 use Rattle.circuit_model.specs.declared.model.Fact.{Fact}

@@ -1,10 +1,9 @@
-use Rattle.std.proofs.Common.{◌≡◌, ◌∷◌, List, refl, sym, subst, ◌∙◌}
+use Rattle.std.proofs.Common.{◌≡◌, ◌∷◌, List, sym, subst}
 use Rattle.circuit_model.specs.Present.{PresentView}
 use Rattle.netlist_text.specs.declared.requests.Change.{Change}
 use Rattle.netlist_text.specs.declared.requests.Request.TheVariants as request
 use Rattle.present_history.specs.declared.undoing.Undoing.{Undoing}
 use Rattle.standing_changes.specs.Remembered.{StandsWith}
-use Rattle.standing_changes.specs.declared.remembered.Remembered.{Remembered}
 use Rattle.session_undo.specs.Presents.{State, after}
 use Rattle.session_undo.specs.Remembering.{parked}
 use Rattle.session_undo.specs.Serving.{IsStoppedBy, IsFree}

@@ -1,4 +1,4 @@
-use Rattle.std.proofs.Common.{◌≡◌, List, refl, subst, sym}
+use Rattle.std.proofs.Common.{List, refl, subst, sym}
 use Rattle.circuit_model.specs.Present.{circuit_of}
 use Rattle.circuit_model.specs.Probe.{AreConflicts}
 use Rattle.environment_sets.specs.declared.environment.Env.{Env}

@@ -1,4 +1,4 @@
-use Rattle.std.proofs.Common.{◌≡◌, ◌≤◌, ℕ, ◌∷◌, List, Err, refl, sym, ap, subst, ◌∙◌}
+use Rattle.std.proofs.Common.{◌≡◌, ◌≤◌, ℕ, List, Err, sym, ap, subst, ◌∙◌}
 use Rattle.circuit_model.specs.Closure.{fact}
 use Rattle.circuit_model.specs.declared.model.Fact.{Fact}
 use Rattle.circuit_model.specs.Present.{PresentView}
@@ -9,7 +9,7 @@ use Rattle.standing_changes.specs.declared.remembered.Remembered.{Remembered}
 use Rattle.standing_changes.specs.declared.remembered.Stop as standing
 use Rattle.circuit_model.specs.declared.limits.TheConstants.{MOST_EARLIER}
 use Rattle.session_undo.specs.Presents.{State, after}
-use Rattle.session_undo.specs.Remembering.{parked, IsKept}
+use Rattle.session_undo.specs.Remembering.{IsKept}
 use Rattle.session_undo.specs.Serving.{IsStoppedBy, IsFree}
 use Rattle.session_undo.specs.declared.refusals.Stop.{Stop}
 use Rattle.session_undo.proofs.Made.{state_at, refused, IsMeasured, before_it, free_before, listed_again, measured_there, roomy_before, without_reading_again, with_reading_now, of_measure, measured, measured_noted, free_measured, stopped_measured, each_again, is_after}

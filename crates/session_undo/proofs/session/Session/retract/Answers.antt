@@ -1,15 +1,11 @@
-use Rattle.std.proofs.Common.{◌≡◌, ◌∷◌, List, Err, refl, sym, ap, subst, ◌∙◌}
-use Rattle.circuit_model.specs.Closure.{fact}
-use Rattle.circuit_model.specs.declared.model.Fact.{Fact}
+use Rattle.std.proofs.Common.{◌≡◌, List, subst}
 use Rattle.circuit_model.specs.Present.{PresentView}
 use Rattle.netlist_text.specs.declared.requests.Change.{Change}
 use Rattle.netlist_text.specs.declared.requests.Request.TheVariants as request
 use Rattle.present_history.specs.declared.undoing.Undoing.{Undoing}
-use Rattle.standing_changes.specs.declared.remembered.Remembered.{Remembered}
 use Rattle.session_undo.specs.Presents.{State, after}
-use Rattle.session_undo.specs.Remembering.{parked, IsKept}
+use Rattle.session_undo.specs.Remembering.{parked}
 use Rattle.session_undo.specs.Serving.{IsStoppedBy, IsFree}
-use Rattle.session_undo.specs.declared.refusals.Stop.{Stop}
 use Rattle.assumption_slots.specs.Slots.{stock}
 use Rattle.standing_changes.proofs.Parked.{cell_stands}
 use Rattle.session_undo.proofs.Made.{state_at, refused, of_retract, IsRetracted, retraction, retracted_noted, free_retracted, each_again, is_after}
