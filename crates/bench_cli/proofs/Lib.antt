@@ -4,3 +4,4 @@ pub mod Sessions
 pub mod Running
 pub mod Serving
 pub mod Causes
+pub mod Answered

@@ -37,7 +37,7 @@ takes old line request (Refused refusal) new reads s = elim s.0 as (λ _. Takes 
   | inl early ↦ refused request reads refusal early refl s.1
   | inr late ↦ refused_late request reads late.0 refusal late.1 refl s.1
 ]
-takes old line request NoMemory new reads s = (record { request = request; asks = reads; free = s.0.free; wants = s.0.wants }, s.1)
+takes old line request NoMemory new reads s = (record { request = request; asks = reads; free = s.0.free; uncaused = s.0.uncaused; wants = s.0.wants }, s.1)
 
 -- a line with a fault is refused by it
 pub takes_faulty : (s : State) (line : List ℕ) (fault : LineFault) (reply : Reply) → Reads line (Err fault) → reply ≡ Refused (Unreadable fault) → Takes s line reply s

@@ -8,7 +8,7 @@ ghost use Rattle.session_undo.specs.Replies.{Reply, text_of, refusal_line};
 ghost use Rattle.bench_cli.specs.Answering.{IsReply, IsWritable};
 
 use crate::turn::LineAnswer;
-use answer_text::{write_label, write_sets};
+use answer_text::{write_derivation, write_label, write_probe, write_sets};
 use bench_io::{Failed, Sink, write_all, write_pieces};
 use circuit_model::Cell;
 use itoa::Buffer;
@@ -53,6 +53,10 @@ fn write_told<K: Sink>(session: &Session, answer: &Answer, sink: &mut K) -> Resu
         Answer::Label { cell } => write_cell(session, *cell, sink),
         Answer::Conflicts(found) => write_sets(session.present(), found, sink),
         Answer::Diagnoses(found) => write_sets(session.present(), found, sink),
+        Answer::Probe(best) => write_probe(session.present(), best, sink),
+        Answer::Explained { under, derivation } => {
+            write_derivation(session.present(), under, derivation, sink)
+        }
         Answer::Show => write_present(session.present(), sink),
     }
 }
