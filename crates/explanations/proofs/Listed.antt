@@ -1,9 +1,8 @@
 -- Words by a round, as a list tells them.
-use Rattle.std.proofs.Common.{◌≡◌, ◌≢◌, ℕ, zero, suc, ◌+◌, ◌<◌, ◌≤◌, ◌⊎◌, inl, inr, Bool, true, false, ◌&&◌, nat_le, if◌then◌else◌, IsTrue, List, [], ◌∷◌, length, map, drop, slice_get, Option, Some, None, add-one, true≢false, refl, sym, ap, ap₂, subst, ◌∙◌, arith}
+use Rattle.std.proofs.Common.{◌≡◌, ℕ, zero, suc, ◌+◌, ◌≤◌, inl, inr, Bool, true, false, ◌&&◌, nat_le, if◌then◌else◌, IsTrue, List, [], ◌∷◌, length, drop, slice_get, Some, None, add-one, refl, sym, subst, ◌∙◌, arith}
 use Rattle.std.proofs.lemmas.Bool.{and_parts, and_from, leb-true, le-leb}
 use Rattle.environment_sets.specs.Lists.{IsIn}
 use Rattle.circuit_model.specs.declared.model.Cell.{Cell}
-use Rattle.circuit_model.specs.declared.model.Fact.{Fact}
 use Rattle.circuit_model.specs.Present.{is_cell}
 use Rattle.circuit_model.proofs.SameCells.{same_cell, cell_itself}
 use Rattle.proof_check.specs.Closing.{Timed}

@@ -1,5 +1,5 @@
 -- What canonical derivations name is of the present.
-use Rattle.std.proofs.Common.{◌≡◌, ℕ, suc, ◌<◌, inl, inr, List, length, Some, slice_get, refl, sym, ap, subst, ◌∙◌, arith}
+use Rattle.std.proofs.Common.{◌≡◌, ℕ, suc, ◌<◌, inl, inr, List, length, Some, slice_get, refl, sym, ap, subst, ◌∙◌}
 use Rattle.std.proofs.lemmas.Option.{slice_get_within}
 use Rattle.environment_sets.specs.Sets.{Set}
 use Rattle.environment_sets.specs.Lists.{IsIn}
@@ -10,7 +10,7 @@ use Rattle.circuit_model.specs.declared.present.Component.{Component}
 use Rattle.circuit_model.specs.Closure.{IsForced}
 use Rattle.circuit_model.specs.Stock.{Has}
 use Rattle.circuit_model.specs.Diagnoses.{Place}
-use Rattle.circuit_model.specs.Derivation.{by_instance, Step, Measured, Inferred, Ending, Holds, TwoValues, Refuted, fact_of, facts_behind, facts_in_clash, IsAssumed, HoldsAt, Justifies, JustifiesClash, IsSupport, AtStart, AreStepsTo, IsClashOf}
+use Rattle.circuit_model.specs.Derivation.{by_instance, Step, Measured, Inferred, Ending, Holds, TwoValues, Refuted, fact_of, facts_in_clash, IsAssumed, HoldsAt, Justifies, JustifiesClash, IsSupport, AtStart, AreStepsTo, IsClashOf}
 use Rattle.circuit_model.specs.Present.{PresentView, IsLawful, IsFactOf, circuit_of}
 use Rattle.circuit_model.specs.Whole.{stock}
 use Rattle.circuit_model.proofs.Readings.{Measured as Reading, measured_at, IsFactOf-at}

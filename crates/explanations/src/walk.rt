@@ -57,12 +57,13 @@ fn walk(
     mark(goals, closed, marks);
     let mut steps = Vec::new(alloc);
     for i in (0..closed.len()).rev() {
-        if marks[i] {
-            let (fact, round) = closed.at(i);
-            let step = support_of(present, chosen, closed, fact, round);
-            mark(&facts_behind(&step), closed, marks);
-            steps.push(step)?;
+        if !marks[i] {
+            continue;
         }
+        let (fact, round) = closed.at(i);
+        let step = support_of(present, chosen, closed, fact, round);
+        mark(&facts_behind(&step), closed, marks);
+        steps.push(step)?;
     }
     Ok(steps)
 }

@@ -1,4 +1,4 @@
-use Rattle.std.proofs.Common.{◌≡◌, List, Some, map, sym, subst, ◌∙◌}
+use Rattle.std.proofs.Common.{List, map, sym, subst, ◌∙◌}
 use Rattle.environment_sets.specs.Lists.{IsIn}
 use Rattle.circuit_model.specs.declared.model.Fact.{Fact}
 use Rattle.circuit_model.specs.Chosen.{chosen_places}

@@ -20,5 +20,5 @@ pub returns-clause-named : goal.returns-clause-named
 returns-clause-named c =
     let Q : List Step → Type 0 = λ steps. AreStepsTo (circuit_of c.args.present.now) (chosen_places c.args.chosen.now) (given c.args.goals.now) (map step_of steps) in
     IfOk-weaker c.reversed.result (λ (turned : List Step). turned ≡ reverse c.deref.result.now) (λ (steps : List Step). (st : derivations.Step) → IsIn (map step_of steps) st → IsStepOf c.args.present.now st) (λ turned e st h.
-        let all : AreStepsTo (circuit_of c.args.present.now) (chosen_places c.args.chosen.now) (given c.args.goals.now) (map step_of turned) = subst Q (sym (e ∙ ap (λ (steps : List Step). reverse steps) c.deref.ensures.value)) c.in_ok-steps.ensures in
-        support_of_present c.args.present.now (chosen_places c.args.chosen.now) c.cycles-cycles.ensures.lawful st (all.supports st h)) c.reversed.ensures
+    let all : AreStepsTo (circuit_of c.args.present.now) (chosen_places c.args.chosen.now) (given c.args.goals.now) (map step_of turned) = subst Q (sym (e ∙ ap (λ (steps : List Step). reverse steps) c.deref.ensures.value)) c.in_ok-steps.ensures in
+    support_of_present c.args.present.now (chosen_places c.args.chosen.now) c.cycles-cycles.ensures.lawful st (all.supports st h)) c.reversed.ensures
