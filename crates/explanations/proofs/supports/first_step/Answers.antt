@@ -11,8 +11,8 @@ use Rattle.explanations.proofs.Closings.{told_fit}
 use Rattle.explanations.proofs.Joined.{first_justifies, forcing_at_part, smaller_before}
 use Rattle.explanations.proofs.supports.first_step.Goals as goal
 
-pub forcing_at-requires : goal.forcing_at-requires
-forcing_at-requires c = told_fit c.args.present.now c.requires.lawful (chosen_places c.args.chosen.now) c.args.closed.now.facts c.args.round c.requires.told
+pub forcing_at-requires-clause-fit : goal.forcing_at-requires-clause-fit
+forcing_at-requires-clause-fit c = told_fit c.args.present.now c.requires.lawful (chosen_places c.args.chosen.now) c.args.closed.now.facts c.args.round c.requires.told
 
 pub returns-in-Some : goal.returns-in-Some
 returns-in-Some c =
