@@ -24,7 +24,7 @@ use std::alloc::{AllocError, Global};
 /// A closing that is going on: the facts of earlier rounds, as they are listed and in order, and those that first hold
 /// at this round.
 #[derive(Drop)]
-pub struct Closing {
+struct Closing {
     timed: Vec<Timed>,
     held: Facts,
     found: Facts,
@@ -33,7 +33,7 @@ pub struct Closing {
 
 /// What a round comes to.
 #[derive(Clone, Copy)]
-pub enum Turn {
+enum Turn {
     /// Another one adds facts.
     Goes,
     /// Nothing is added after it.
