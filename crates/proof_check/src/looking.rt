@@ -3,11 +3,11 @@
 ghost use Rattle.std.specs.Prelude.{◌≡◌, ◌+◌, ◌<◌, [], IfOk, length};
 ghost use Rattle.circuit_model.specs.Chosen.{chosen_places};
 ghost use Rattle.proof_check.specs.Checking.{IsInstanceOf, IsPlaced};
-ghost use Rattle.proof_check.specs.Rounds.{AreCalm, AreLookedAt, Looks, from_here};
+ghost use Rattle.proof_check.specs.Rounds.{AreCalm, AreLookedAt, AreWordsOf, Looks, from_here};
 
 use crate::derivation::Ending;
 use crate::facts::Facts;
-use crate::held::{Site, look_at_ports};
+use crate::held::{Site, look_at_ports, words_of};
 use crate::premises::has_place;
 use crate::written::CHOICES;
 use circuit_model::{Chosen, Present};
@@ -50,10 +50,12 @@ fn look_at_part(round: &Round, part: u16, found: &mut Facts) -> Result<Option<En
     let component = round.present.part_at(part);
     let count = component.part.len() as u16;
     for place in 0..count {
+        let instance = *component.part.at(place as usize);
         let site = Site {
             part,
             place,
-            instance: *component.part.at(place as usize),
+            instance,
+            words: words_of(&instance.cells, round.held),
         };
         let clash = look_at_instance(round, &site, found)?;
         if clash.is_some() {
@@ -72,6 +74,7 @@ fn look_at_instance(
     requires calm { AreCalm round.now.present.now round.now.held.now }
     requires there { IsInstanceOf round.now.present.now (chosen_places round.now.chosen.now) site.now.part site.now.place site.now.instance }
     requires placed { IsPlaced round.now.present.now site.now.instance }
+    requires words { AreWordsOf round.now.held.now site.now.instance.cells site.now.words }
     requires looked { AreLookedAt round.now.present.now (chosen_places round.now.chosen.now) round.now.held.now (from_here site.now.part site.now.place 0) found.old }
     ensures { IfOk result (Looks round.now.present.now (chosen_places round.now.chosen.now) round.now.held.now (from_here site.now.part (site.now.place + 1) 0) found.new) }
 {
