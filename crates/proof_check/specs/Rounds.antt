@@ -106,6 +106,15 @@ pub record IsRefutedAt (held : List Fact) (part place ports : ℕ) (instance : I
   pub refutes : Refutes instance.prim instance.widths known
   pub told : ending_of ending ≡ derivations.Refuted part place ports (facts_at instance.cells known)
 
+-- justifications from none of the fresh facts do not refute, and force only what is held
+pub record IsQuietBut (s : PresentView) (E : Set Place) (held fresh : List Fact) : Type 0 where
+  pub fine : (j : Justification) → ((f : Fact) → IsIn j.from f → IsIn fresh f → ⊥) → JustifiesClash (circuit_of s) E (IsIn held) j → ⊥
+  pub known : (j : Justification) (f : Fact) → ((f : Fact) → IsIn j.from f → IsIn fresh f → ⊥) → Justifies (circuit_of s) E (IsIn held) f j → IsIn held f
+
+-- none of the facts is at one of the cells
+abbrev pub AreElsewhere : List Fact → List Cell → Type 0
+AreElsewhere facts cells = (port v : ℕ) (c : Cell) → slice_get cells port ≡ Some c → IsIn facts (fact c v) → ⊥
+
 -- some justification before this one forces the fact from what is held
 abbrev pub IsForcedBefore : PresentView → Set Place → List Fact → Justification → Fact → Type 0
 IsForcedBefore s E held next f = (j : Justification) × IsJustificationBefore j next × Justifies (circuit_of s) E (IsIn held) f j

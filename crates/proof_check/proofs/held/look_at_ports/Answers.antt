@@ -1,4 +1,4 @@
-use Rattle.std.proofs.Common.{◌≡◌, ap, arith}
+use Rattle.std.proofs.Common.{ap, arith}
 use Rattle.circuit_model.specs.Derivation as derivations
 use Rattle.proof_check.specs.Rounds.{AreHeldAt}
 use Rattle.proof_check.proofs.HeldWords.{AreHeldAt-ports, no_words, IsQuietAt-said, IsQuietAt-none, WordsFit-held, told_from}
