@@ -96,7 +96,7 @@ module _ (round : ℕ) (c : Cell) where
       ] refl
 
   test_from : (t : Timed) → t.fact.cell ≡ c → t.round ≤ round → IsTrue (is_by t)
-  test_from t same by = and_from (is_cell t.fact.cell c) (nat_le t.round round) (let P : Cell → Type 0 = λ d. is_cell d c ≡ true in subst P (sym same) (cell_itself c)) (le-leb t.round round by)
+  test_from t same by = is_by_from t (let P : Cell → Type 0 = λ d. is_cell d c ≡ true in subst P (sym same) (cell_itself c)) by
 
   -- where a fact of the list is at the cell by the round, there is a word
   pub listed-word_by : (facts : List Timed) (t : Timed) → IsIn facts t → t.fact.cell ≡ c → t.round ≤ round → (v : ℕ) × (word_by facts round c ≡ Some v)
