@@ -1,16 +1,14 @@
 -- What a closing lists.
-use Rattle.std.proofs.Common.{◌≡◌, ◌≢◌, ◌↔◌, ℕ, zero, suc, ◌+◌, ◌<◌, ◌≤◌, ◌^◌, ◌⊎◌, inl, inr, IsTrue, List, [], ◌∷◌, length, map, slice_get, Option, Some, None, refl, sym, ap, ap₂, subst, ◌∙◌, arith}
+use Rattle.std.proofs.Common.{◌≡◌, ◌≢◌, ℕ, zero, suc, ◌<◌, ◌≤◌, ◌⊎◌, inl, inr, List, [], ◌∷◌, Option, Some, None, refl, sym, ap, ap₂, subst, ◌∙◌, arith}
 use Rattle.std.proofs.lemmas.Bool.{cases_lt, cases_eq}
 use Rattle.environment_sets.specs.Sets.{Set}
 use Rattle.environment_sets.specs.Lists.{IsIn}
-use Rattle.environment_sets.proofs.Membership.{map-IsIn}
 use Rattle.circuit_model.specs.declared.model.Cell.{Cell}
 use Rattle.circuit_model.specs.declared.model.Fact.{Fact}
-use Rattle.circuit_model.specs.Closure.{fact, AreTwoWords, ClashesAt}
-use Rattle.circuit_model.specs.Stock.{Has, IsRefutedBy}
-use Rattle.circuit_model.specs.Diagnoses.{Place, stock_of}
+use Rattle.circuit_model.specs.Closure.{fact, ClashesAt}
+use Rattle.circuit_model.specs.Diagnoses.{Place}
 use Rattle.circuit_model.specs.Derivation.{IsAssumed, HoldsAt, IsRoundOf}
-use Rattle.circuit_model.specs.Present.{PresentView, IsLawful, width_of, circuit_of}
+use Rattle.circuit_model.specs.Present.{PresentView, IsLawful, circuit_of}
 use Rattle.circuit_model.proofs.SameCells.{same_or_other}
 use Rattle.circuit_model.proofs.Rounds.{Holds-later}
 use Rattle.proof_check.specs.declared.derivation.Ending.{Ending}

@@ -1,10 +1,9 @@
 -- What words at the ports of an instance force.
-use Rattle.std.proofs.Common.{◌≡◌, ◌↔◌, ℕ, zero, suc, ◌+◌, ◌<◌, ◌≤◌, ◌^◌, ◌⊎◌, inl, inr, Bool, List, [], ◌∷◌, length, map, slice_get, get_or, Option, Some, None, MatchOption, refl, sym, ap, ap₂, subst, ◌∙◌, arith}
+use Rattle.std.proofs.Common.{◌≡◌, ◌↔◌, ℕ, zero, suc, ◌<◌, ◌^◌, inl, inr, Bool, List, [], ◌∷◌, length, slice_get, Option, Some, None, MatchOption, refl, sym, ap, subst, ◌∙◌, arith}
 use Rattle.std.specs.Option.{option_map}
 use Rattle.std.proofs.lemmas.Bool.{cases_lt, cases_order}
 use Rattle.std.proofs.lemmas.List.{length-map}
-use Rattle.std.proofs.lemmas.Option.{slice_get-map, slice_get_within}
-use Rattle.environment_sets.specs.Lists.{IsIn}
+use Rattle.std.proofs.lemmas.Option.{slice_get-map}
 use Rattle.environment_sets.proofs.Membership.{IsIn-slice_get}
 use Rattle.circuit_model.specs.declared.model.Cell.{Cell}
 use Rattle.circuit_model.specs.declared.model.Fact.{Fact}
@@ -13,7 +12,7 @@ use Rattle.circuit_model.specs.declared.present.Component.{Component}
 use Rattle.circuit_model.specs.Inference.{Forces, IsInference}
 use Rattle.circuit_model.specs.Diagnoses.{Circuit}
 use Rattle.circuit_model.specs.Derivation.{number_of, facts_at}
-use Rattle.circuit_model.specs.Present.{PresentView, IsLawful, width_of}
+use Rattle.circuit_model.specs.Present.{PresentView, IsLawful}
 use Rattle.component_models.specs.Asking.{WordsFit}
 use Rattle.proof_check.specs.Closing.{Timed}
 use Rattle.proof_check.specs.Written.{given, at_two_places}

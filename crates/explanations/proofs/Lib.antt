@@ -8,3 +8,4 @@ pub mod Supported
 pub mod Marking
 pub mod Walked
 pub mod Explained
+pub mod Named

@@ -1,13 +1,12 @@
 -- Words by a round, as a list tells them.
-use Rattle.std.proofs.Common.{◌≡◌, ◌≢◌, ℕ, zero, suc, ◌+◌, ◌<◌, ◌≤◌, ◌⊎◌, inl, inr, Bool, true, false, ◌&&◌, nat_le, if◌then◌else◌, IsTrue, List, [], ◌∷◌, length, map, drop, slice_get, Option, Some, None, add-one, true≢false, refl, sym, ap, ap₂, subst, ◌∙◌, arith}
-use Rattle.std.proofs.lemmas.Bool.{and_parts, and_from, leb-true, le-leb}
+use Rattle.std.proofs.Common.{◌≡◌, ℕ, zero, suc, ◌+◌, ◌<◌, ◌≤◌, inl, inr, Bool, true, false, ◌&&◌, nat_le, if◌then◌else◌, IsTrue, List, [], ◌∷◌, length, drop, slice_get, Some, None, add-one, refl, sym, subst, ◌∙◌, arith}
+use Rattle.std.proofs.lemmas.Bool.{and_parts, and_from, and_left, and_right, leb-true, le-leb, lt-leb}
 use Rattle.environment_sets.specs.Lists.{IsIn}
 use Rattle.circuit_model.specs.declared.model.Cell.{Cell}
-use Rattle.circuit_model.specs.declared.model.Fact.{Fact}
 use Rattle.circuit_model.specs.Present.{is_cell}
 use Rattle.circuit_model.proofs.SameCells.{same_cell, cell_itself}
 use Rattle.proof_check.specs.Closing.{Timed}
-use Rattle.explanations.specs.Words.{word_by}
+use Rattle.explanations.specs.Words.{AreByRound, word_by}
 
 module _ (round : ℕ) (c : Cell) where
   abbrev is_by : Timed → Bool
@@ -39,6 +38,30 @@ module _ (round : ℕ) (c : Cell) where
   -- it is none
   pub word_by-later : (facts : List Timed) (i : ℕ) (t : Timed) → slice_get facts i ≡ Some t → is_by t ≡ false → word_by (drop i facts) round c ≡ word_by (drop (i + 1) facts) round c
   word_by-later facts i t at fails = rw add-one (later facts i t at fails)
+
+  none_by : (facts : List Timed) → ((t : Timed) → IsIn facts t → round < t.round) → word_by facts round c ≡ None
+  none_by [] past = refl
+  none_by (t ∷ facts) past = word_by-rest t facts (and_right (is_cell t.fact.cell c) (nat_le t.round round) (lt-leb t.round round (past t (inl refl)))) ∙ none_by facts (λ u at. past u (inr at))
+
+  -- in order, none is left past the round
+  pub word_by-past : (facts : List Timed) → AreByRound facts → (i : ℕ) (t : Timed) → slice_get facts i ≡ Some t → round < t.round → word_by (drop i facts) round c ≡ None
+  word_by-past [] rising i t at past = absurd (cc)
+  word_by-past (u ∷ facts) rising zero t at past =
+      let same : t ≡ u = cc in
+      let low : round < u.round = subst (λ (t : Timed). round < t.round) same past in
+      none_by (u ∷ facts) (λ v h. elim h [
+        | inl e ↦ subst (λ (v : Timed). round < v.round) e low
+        | inr later ↦ elim (rising.0 v later) [ inl less ↦ omega (arith, low, less) | inr also ↦ omega (arith, low, also.0) ]
+      ])
+  word_by-past (u ∷ facts) rising (suc i) t at past = word_by-past facts rising.1 i t at past
+
+  -- a fact at the cell by the round
+  pub is_by_from : (t : Timed) → is_cell t.fact.cell c ≡ true → t.round ≤ round → IsTrue (is_by t)
+  is_by_from t same by = and_from (is_cell t.fact.cell c) (nat_le t.round round) same (le-leb t.round round by)
+
+  -- one at another cell
+  pub is_by-other : (t : Timed) → is_cell t.fact.cell c ≡ false → is_by t ≡ false
+  is_by-other t other = and_left (is_cell t.fact.cell c) (nat_le t.round round) other
 
   -- none is left
   pub word_by-end : (facts : List Timed) (i : ℕ) → length facts ≤ i → word_by (drop i facts) round c ≡ None
@@ -73,7 +96,7 @@ module _ (round : ℕ) (c : Cell) where
       ] refl
 
   test_from : (t : Timed) → t.fact.cell ≡ c → t.round ≤ round → IsTrue (is_by t)
-  test_from t same by = and_from (is_cell t.fact.cell c) (nat_le t.round round) (let P : Cell → Type 0 = λ d. is_cell d c ≡ true in subst P (sym same) (cell_itself c)) (le-leb t.round round by)
+  test_from t same by = is_by_from t (let P : Cell → Type 0 = λ d. is_cell d c ≡ true in subst P (sym same) (cell_itself c)) by
 
   -- where a fact of the list is at the cell by the round, there is a word
   pub listed-word_by : (facts : List Timed) (t : Timed) → IsIn facts t → t.fact.cell ≡ c → t.round ≤ round → (v : ℕ) × (word_by facts round c ≡ Some v)

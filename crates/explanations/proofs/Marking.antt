@@ -1,6 +1,6 @@
 -- Marks on facts.
 use Rattle.std.proofs.Common.{◌≡◌, ◌≢◌, ℕ, zero, suc, ◌+◌, ◌<◌, ◌≤◌, ◌⊎◌, inl, inr, Bool, true, false, List, [], ◌∷◌, length, slice_get, get_or, Some, true≢false, refl, sym, ap, subst, ◌∙◌, arith}
-use Rattle.std.proofs.Math.ListN.{set, replicate}
+use Rattle.std.proofs.Math.ListN.{set}
 use Rattle.std.proofs.lemmas.Bool.{cases_eq}
 use Rattle.std.proofs.lemmas.List.{length-set}
 use Rattle.std.proofs.lemmas.Option.{slice_get_within, slice_get-get_or, get_or_from_slice_get}
@@ -21,12 +21,6 @@ module _ {X : Type 0} where
   set_elsewhere (y ∷ xs) zero (suc j) x differ = refl
   set_elsewhere (y ∷ xs) (suc i) zero x differ = refl
   set_elsewhere (y ∷ xs) (suc i) (suc j) x differ = set_elsewhere xs i j x (λ e. differ (ap (λ n. suc n) e))
-
--- no mark is set
-pub unmarked : (n i : ℕ) → IsMarked (replicate n false) i → ⊥
-unmarked zero i h = cc
-unmarked (suc n) zero h = cc
-unmarked (suc n) (suc i) h = unmarked n i h
 
 -- a mark that was read
 pub marked_there : (marks : List Bool) (i : ℕ) → i < length marks → get_or marks i false ≡ true → IsMarked marks i

@@ -1,9 +1,8 @@
 -- How many instances a component has.
-use Rattle.std.proofs.Common.{◌≡◌, ℕ, zero, suc, ◌+◌, ◌*◌, ◌<◌, ◌≤◌, ◌^◌, List, [], ◌∷◌, ◌++◌, length, map, slice_get, Option, Some, None, refl, sym, ap, subst, ◌∙◌, arith}
+use Rattle.std.proofs.Common.{◌≡◌, ℕ, zero, suc, ◌*◌, ◌<◌, ◌≤◌, ◌^◌, List, [], ◌∷◌, length, map, slice_get, Option, Some, None, refl, sym, ap, subst, arith}
 use Rattle.std.proofs.Common.{length-append}
-use Rattle.std.specs.List.{All, flat_map}
+use Rattle.std.specs.List.{flat_map}
 use Rattle.std.proofs.Math.Nat.{mul-le-mul}
-use Rattle.environment_sets.specs.Lists.{IsIn}
 use Rattle.environment_sets.proofs.Membership.{IsIn-slice_get}
 use Rattle.circuit_model.specs.declared.limits.TheConstants.{MOST_CYCLES, MOST_INNERS}
 use Rattle.circuit_model.specs.declared.model.Instance.{Instance}
@@ -11,7 +10,7 @@ use Rattle.circuit_model.specs.declared.model.Kind.{Kind}
 use Rattle.circuit_model.specs.declared.model.Kind.TheVariants.{Reg, Block}
 use Rattle.circuit_model.specs.declared.present.Component.{Component}
 use Rattle.circuit_model.specs.Kinds.{block_in, primitive_of, instance_at, carry_instance, each_cycle, register, instances}
-use Rattle.circuit_model.specs.Blocks.{BlockView, IsLawfulBlock, inner_instances, block_part}
+use Rattle.circuit_model.specs.Blocks.{BlockView, inner_instances, block_part}
 use Rattle.circuit_model.specs.Present.{PresentView, IsLawful, IsLawfulComponent, HasPins, width_of, part_by, block_at}
 use Rattle.circuit_model.proofs.Openings.{All-IsIn, block_lawful}
 

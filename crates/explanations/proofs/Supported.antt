@@ -1,17 +1,12 @@
 -- What supports a fact.
-use Rattle.std.proofs.Common.{◌≡◌, ℕ, zero, suc, ◌+◌, ◌<◌, ◌≤◌, ◌⊎◌, inl, inr, IsTrue, List, [], ◌∷◌, ◌++◌, length, map, take, slice_get, Some, refl, sym, ap, ap₂, subst, ◌∙◌, arith}
-use Rattle.std.proofs.lemmas.List.{take_more, take_all, map-append}
-use Rattle.std.proofs.lemmas.Option.{slice_get_within, get_or_from_slice_get}
+use Rattle.std.proofs.Common.{◌≡◌, ℕ, suc, ◌≤◌, inl, inr, slice_get, Some, refl, sym, subst, arith}
 use Rattle.environment_sets.specs.Sets.{Set}
-use Rattle.environment_sets.specs.Lists.{IsIn}
-use Rattle.environment_sets.proofs.Membership.{slice_get-IsIn, IsIn-append}
+use Rattle.environment_sets.proofs.Membership.{slice_get-IsIn}
 use Rattle.circuit_model.specs.declared.model.Fact.{Fact}
-use Rattle.circuit_model.specs.declared.model.Instance.{Instance}
 use Rattle.circuit_model.specs.Closure.{IsForced}
 use Rattle.circuit_model.specs.Diagnoses.{Circuit, Place}
 use Rattle.circuit_model.specs.Derivation.{Justification, by_instance, Step, Measured, Inferred, fact_of, number_of, facts_at, IsAssumed, HoldsAt, IsRoundOf, Justifies, IsFirst, IsSupport}
 use Rattle.proof_check.proofs.Assumed.{HasPart, part_assumed}
-use Rattle.proof_check.specs.Closing.{Timed}
 use Rattle.explanations.specs.Forcing.{IsFirstStep}
 
 module _ (P : Circuit) (E : Set Place) where

@@ -1,17 +1,15 @@
 -- The walk back from some facts along their supports.
-use Rattle.std.proofs.Common.{◌≡◌, ◌≢◌, ℕ, zero, suc, ◌+◌, ◌-◌, ◌<◌, ◌≤◌, ◌⊎◌, inl, inr, Bool, IsTrue, List, [], ◌∷◌, ◌++◌, length, map, reverse, drop, get_or, drop-cons, slice_get, Option, Some, None, refl, sym, ap, ap₂, subst, ◌∙◌, arith}
-use Rattle.std.specs.Option.{option_map}
+use Rattle.std.proofs.Common.{◌≡◌, ℕ, zero, suc, ◌+◌, ◌-◌, ◌<◌, ◌≤◌, ◌⊎◌, inl, inr, Bool, IsTrue, List, [], ◌∷◌, ◌++◌, length, map, reverse, drop, get_or, drop-cons, slice_get, Some, refl, sym, ap, ap₂, subst, ◌∙◌, arith}
 use Rattle.std.proofs.lemmas.Bool.{cases_eq, cases_order}
 use Rattle.std.proofs.lemmas.List.{reverse-append}
-use Rattle.std.proofs.lemmas.Option.{slice_get-map, slice_get_within}
+use Rattle.std.proofs.lemmas.Option.{slice_get_within}
 use Rattle.environment_sets.specs.Sets.{Set}
 use Rattle.environment_sets.specs.Lists.{IsIn, IsRising}
 use Rattle.environment_sets.proofs.Membership.{IsIn-slice_get, slice_get-IsIn, IsIn-map}
 use Rattle.circuit_model.specs.declared.model.Fact.{Fact}
 use Rattle.circuit_model.specs.declared.model.Instance.{Instance}
-use Rattle.circuit_model.specs.declared.model.Assumption.TheVariants.{Reading}
-use Rattle.circuit_model.specs.Diagnoses.{Circuit, Place}
-use Rattle.circuit_model.specs.Derivation.{Justification, by_instance, Step, Measured, Inferred, fact_of, facts_behind, facts_at, is_fact_before, HoldsAt, IsRoundOf, IsOfInstance, Justifies, IsFirst, IsJustificationBefore, IsSupport, IsReached, AtStart, Behind, IsSooner, AreStepsTo}
+use Rattle.circuit_model.specs.Diagnoses.{Place}
+use Rattle.circuit_model.specs.Derivation.{Justification, by_instance, Step, Measured, Inferred, fact_of, facts_behind, is_fact_before, HoldsAt, IsRoundOf, IsOfInstance, Justifies, IsFirst, IsJustificationBefore, IsSupport, IsReached, AtStart, Behind, IsSooner, AreStepsTo}
 use Rattle.circuit_model.specs.Present.{PresentView, IsLawful, circuit_of}
 use Rattle.proof_check.specs.Closing.{Timed, ClosedView, IsEarlier, Closes}
 use Rattle.proof_check.proofs.Told.{held_facts}
@@ -175,7 +173,7 @@ module _ (s : PresentView) (E : Set Place) where
       is_round = round_of_step i t at_i st is;
       is_other = round_of_step j u at_j other also;
       sooner = let Q : Fact → Fact → Type 0 = λ f g. (t.round < u.round) ⊎ ((t.round ≡ u.round) × IsTrue (is_fact_before f g)) in
-      subst (λ (f : Fact). Q f (fact_of other)) (sym is) (subst (λ (g : Fact). Q t.fact g) (sym also) (rising_at IsEarlier c.facts closes.rising i j t u at_i at_j less));
+          subst (λ (f : Fact). Q f (fact_of other)) (sym is) (subst (λ (g : Fact). Q t.fact g) (sym also) (rising_at IsEarlier c.facts closes.rising i j t u at_i at_j less));
     }
 
     -- where a fact stands

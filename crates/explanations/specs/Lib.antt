@@ -1,3 +1,4 @@
 pub mod Words
 pub mod Forcing
 pub mod Marks
+pub mod Naming

@@ -1,12 +1,17 @@
 -- The words that held at some cells by a round of a closing.
 use Rattle.std.specs.Prelude.{◌≡◌, ◌↔◌, ℕ, ◌<◌, ◌/◌, ◌%◌, ◌^◌, ◌==◌, ◌&&◌, nat_le, if◌then◌else◌, List, [], ◌∷◌, Option, Some, None}
 use Rattle.environment_sets.specs.Sets.{Set}
+use Rattle.environment_sets.specs.Lists.{IsRising}
 use Rattle.circuit_model.specs.declared.model.Cell.{Cell}
 use Rattle.circuit_model.specs.Closure.{fact}
 use Rattle.circuit_model.specs.Diagnoses.{Place}
 use Rattle.circuit_model.specs.Derivation.{HoldsAt}
 use Rattle.circuit_model.specs.Present.{PresentView, width_of, is_cell, circuit_of}
-use Rattle.proof_check.specs.Closing.{Timed}
+use Rattle.proof_check.specs.Closing.{Timed, IsEarlier}
+
+-- by round, then by cell, then by word
+abbrev pub AreByRound : List Timed → Type 0
+AreByRound facts = IsRising IsEarlier facts
 
 -- the word of the first fact at the cell that held by the round
 abbrev pub word_by : List Timed → ℕ → Cell → Option ℕ

@@ -9,6 +9,7 @@ ghost use Rattle.circuit_model.specs.Derivation.{IsCanonical};
 ghost use Rattle.circuit_model.specs.Present.{circuit_of};
 ghost use Rattle.proof_check.specs.Written.{given, ending_of, goal_of, derivation_of};
 ghost use Rattle.proof_check.specs.declared.derivation.Goal.TheVariants.{Value, Clash};
+ghost use Rattle.explanations.specs.Naming.{IsDerivationOf};
 
 use crate::walk::steps_behind;
 use circuit_model::{Chosen, Fact, Present};
@@ -26,6 +27,7 @@ pub fn explain_value(
     requires consistent { IsRefutedBy (stock_of (circuit_of present.now)) (chosen_places chosen.now) → ⊥ }
     requires follows { Has (stock_of (circuit_of present.now)) fact (chosen_places chosen.now) }
     ensures canonical { IfOk result (λ d. IsCanonical (circuit_of present.now) (chosen_places chosen.now) (goal_of (Value fact)) (derivation_of d)) }
+    ensures named { IfOk result (λ d. IsDerivationOf present.now (derivation_of d)) }
 {
     let closed = close(alloc, present, chosen)?;
     let steps = steps_behind(alloc, present, chosen, &closed, &[Some(fact), None])?;
@@ -43,6 +45,7 @@ pub fn explain_clash(
 ) -> Result<Derivation, AllocError>
     requires clashes { IsRefutedBy (stock_of (circuit_of present.now)) (chosen_places chosen.now) }
     ensures canonical { IfOk result (λ d. IsCanonical (circuit_of present.now) (chosen_places chosen.now) (goal_of Clash) (derivation_of d)) }
+    ensures named { IfOk result (λ d. IsDerivationOf present.now (derivation_of d)) }
 {
     let closed = close(alloc, present, chosen)?;
     match closed.clash() {

@@ -6,7 +6,7 @@ ghost use Rattle.component_models.specs.Asking.{WordsFit};
 ghost use Rattle.circuit_model.specs.Derivation as derivations;
 ghost use Rattle.circuit_model.specs.Present.{circuit_of};
 ghost use Rattle.proof_check.specs.Written.{at_two_places};
-ghost use Rattle.explanations.specs.Words.{chosen_words, HasFitting};
+ghost use Rattle.explanations.specs.Words.{AreByRound, chosen_words, HasFitting};
 ghost use Rattle.explanations.specs.Forcing.{IsLeast, IsForcing, IsForcingIn, IsFirstIn, IsForcingAt, IsFirstAt, words_of, IsFitting, AllFit};
 
 use crate::words::{chosen_words, words_by};
@@ -35,7 +35,8 @@ pub fn forcing_at(
     round: u32,
     fact: Fact,
 ) -> Option<Forcing>
-    requires { HasFitting present.now closed.now.facts round }
+    requires order { AreByRound closed.now.facts }
+    requires fit { HasFitting present.now closed.now.facts round }
     ensures { MatchOption result ((place ports : ℕ) → IsForcingAt (circuit_of present.now) closed.now.facts round fact position place ports → ⊥) (IsFirstAt (circuit_of present.now) closed.now.facts round fact position) }
 {
     if position >= present.parts() {
@@ -47,6 +48,7 @@ pub fn forcing_at(
 /// The first words of a component that force the fact, of those that held by the round: by the place of the instance,
 /// then by the number of the ports.
 fn forcing_in(part: &Part, closed: &Closed, round: u32, fact: Fact) -> Option<Forcing>
+    requires order { AreByRound closed.now.facts }
     requires few { length part.now < 2 ^ 16 }
     requires fit { AllFit closed.now.facts round part.now }
     ensures { MatchOption result ((place ports : ℕ) → IsForcingIn closed.now.facts round fact part.now place ports → ⊥) (IsFirstIn closed.now.facts round fact part.now) }
@@ -66,6 +68,7 @@ fn forcing_in(part: &Part, closed: &Closed, round: u32, fact: Fact) -> Option<Fo
 
 /// The least number of ports of the instance whose words, as they held by the round, force the fact.
 fn forcing_ports(instance: &Instance, closed: &Closed, round: u32, fact: Fact) -> Option<u8>
+    requires order { AreByRound closed.now.facts }
     requires lawful { IsLawfulInstance instance.now }
     requires fit { IsFitting closed.now.facts round instance.now }
     ensures { MatchOption result ((ports : ℕ) → IsForcing instance.now (words_of closed.now.facts round instance.now) fact ports → ⊥) (IsLeast (IsForcing instance.now (words_of closed.now.facts round instance.now) fact)) }
@@ -115,6 +118,7 @@ fn is_forcing(instance: &Instance, ports: u8, words: &[Option<u64>; 3], fact: Fa
 
 /// The facts at these ports, as they held by the round; where there are three, the first two.
 fn facts_at(instance: &Instance, ports: u8, closed: &Closed, round: u32) -> [Option<Fact>; 2]
+    requires { AreByRound closed.now.facts }
     ensures { result ≡ at_two_places (derivations.facts_at instance.now.cells (chosen_words ports (words_of closed.now.facts round instance.now))) }
 {
     let words = words_by(closed, round, &instance.cells);

@@ -7,7 +7,7 @@ ghost use Rattle.circuit_model.specs.Derivation.{Justification, HoldsAt, Justifi
 ghost use Rattle.circuit_model.specs.Present.{IsLawful, circuit_of};
 ghost use Rattle.proof_check.specs.Closing.{Closes};
 ghost use Rattle.proof_check.specs.Written.{step_of};
-ghost use Rattle.explanations.specs.Words.{TellsRound};
+ghost use Rattle.explanations.specs.Words.{AreByRound, TellsRound};
 ghost use Rattle.explanations.specs.Forcing.{IsFirstStep};
 
 use crate::forcing::{Forcing, forcing_at};
@@ -46,6 +46,7 @@ fn first_step(
     round: u32,
 ) -> Option<Step>
     requires lawful { IsLawful present.now }
+    requires order { AreByRound closed.now.facts }
     requires told { TellsRound present.now (chosen_places chosen.now) closed.now.facts round }
     ensures { MatchOption result ((j : Justification) → Justifies (circuit_of present.now) (chosen_places chosen.now) (HoldsAt (circuit_of present.now) (chosen_places chosen.now) round) fact j → ⊥) (λ s. IsFirstStep (circuit_of present.now) (chosen_places chosen.now) round fact (step_of s)) }
 {

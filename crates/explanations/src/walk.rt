@@ -10,6 +10,7 @@ ghost use Rattle.circuit_model.specs.Present.{IsLawful, circuit_of};
 ghost use Rattle.proof_check.specs.Closing.{Closes};
 ghost use Rattle.proof_check.specs.Written.{given, step_of};
 ghost use Rattle.explanations.specs.Marks.{IsMarked};
+ghost use Rattle.explanations.specs.Naming.{IsStepOf};
 
 use crate::marks::mark;
 use crate::supports::support_of;
@@ -27,7 +28,8 @@ pub fn steps_behind(
 ) -> Result<Steps, AllocError>
     requires closes { Closes present.now (chosen_places chosen.now) closed.now }
     requires listed { (f : Fact) → IsIn (given goals.now) f → IsIn (map (λ t. t.fact) closed.now.facts) f }
-    ensures { IfOk result (λ steps. AreStepsTo (circuit_of present.now) (chosen_places chosen.now) (given goals.now) (map step_of steps)) }
+    ensures all { IfOk result (λ steps. AreStepsTo (circuit_of present.now) (chosen_places chosen.now) (given goals.now) (map step_of steps)) }
+    ensures named { IfOk result (λ steps. (st : derivations.Step) → IsIn (map step_of steps) st → IsStepOf present.now st) }
 {
     // For the proof alone: a present is lawful.
     let _cycles = present.cycles();
@@ -55,12 +57,13 @@ fn walk(
     mark(goals, closed, marks);
     let mut steps = Vec::new(alloc);
     for i in (0..closed.len()).rev() {
-        if marks[i] {
-            let (fact, round) = closed.at(i);
-            let step = support_of(present, chosen, closed, fact, round);
-            mark(&facts_behind(&step), closed, marks);
-            steps.push(step)?;
+        if !marks[i] {
+            continue;
         }
+        let (fact, round) = closed.at(i);
+        let step = support_of(present, chosen, closed, fact, round);
+        mark(&facts_behind(&step), closed, marks);
+        steps.push(step)?;
     }
     Ok(steps)
 }

@@ -1,14 +1,15 @@
 // The words that held at some cells by a round.
 
-ghost use Rattle.std.specs.Prelude.{◌≡◌, ◌≤◌, ◌&&◌, nat_le, map, if◌then◌else◌, ◌==◌, None};
+ghost use Rattle.std.specs.Prelude.{◌≡◌, map, if◌then◌else◌, None};
 ghost use Rattle.circuit_model.specs.Present.{is_cell};
-ghost use Rattle.explanations.specs.Words.{word_by, chosen_words};
+ghost use Rattle.explanations.specs.Words.{AreByRound, word_by, chosen_words};
 
-use circuit_model::{Cell, Fact};
+use circuit_model::Cell;
 use proof_check::Closed;
 
 /// The word that held at each of the cells by the round.
 pub fn words_by(closed: &Closed, round: u32, cells: &[Cell; 3]) -> [Option<u64>; 3]
+    requires { AreByRound closed.now.facts }
     ensures { result ≡ map (word_by closed.now.facts round) cells.now }
 {
     let [c, d, e] = *cells;
@@ -21,22 +22,26 @@ pub fn words_by(closed: &Closed, round: u32, cells: &[Cell; 3]) -> [Option<u64>;
 
 /// The word that held at the cell by the round.
 fn word_by(closed: &Closed, round: u32, cell: Cell) -> Option<u64>
+    requires { AreByRound closed.now.facts }
     ensures { result ≡ word_by closed.now.facts round cell }
 {
     for i in 0..closed.len() {
         let (fact, first_round) = closed.at(i);
-        if is_by(fact, first_round, round, cell) {
+        if first_round > round {
+            return None;
+        }
+        if is_cell(fact.cell, cell) {
             return Some(fact.value);
         }
     }
     None
 }
 
-/// Whether a fact with its first round is at the cell and held by the round.
-fn is_by(fact: Fact, first_round: u32, round: u32, cell: Cell) -> bool
-    ensures { result ≡ (is_cell fact.cell cell && nat_le first_round round) }
+/// Whether it is the same cell.
+fn is_cell(one: Cell, other: Cell) -> bool
+    ensures { result ≡ is_cell one other }
 {
-    fact.cell == cell && first_round <= round
+    one == other
 }
 
 /// The words at the places of this number, whose lowest bit is the first place; elsewhere none.

@@ -1,5 +1,5 @@
 -- Words that are held at an instance's ports.
-use Rattle.std.proofs.Common.{◌≡◌, ℕ, zero, suc, ◌+◌, ◌*◌, ◌<◌, ◌≤◌, ◌⊎◌, inl, inr, Bool, true, false, List, [], ◌∷◌, length, Option, Some, None, is_some, slice_get, get_or, true≢false, refl, sym, ap, ap₂, subst, ◌∙◌, arith}
+use Rattle.std.proofs.Common.{◌≡◌, ℕ, zero, suc, ◌+◌, ◌*◌, ◌<◌, ◌≤◌, ◌⊎◌, inl, inr, Bool, true, false, if◌then◌else◌, List, [], ◌∷◌, length, Option, Some, None, is_some, slice_get, get_or, true≢false, refl, sym, ap, ap₂, subst, ◌∙◌, arith}
 use Rattle.std.proofs.lemmas.Bool.{cases_eq}
 use Rattle.std.proofs.lemmas.Option.{slice_get-get_or, slice_get_within}
 use Rattle.environment_sets.specs.Lists.{IsIn}
@@ -14,7 +14,7 @@ use Rattle.proof_check.specs.declared.written.TheConstants.{CHOICES}
 use Rattle.proof_check.specs.Written.{given, at_two_places}
 use Rattle.proof_check.specs.Checking.{AreAlike}
 use Rattle.proof_check.specs.Ordered.{HasPut}
-use Rattle.proof_check.specs.Rounds.{IsKept, AreKept, AreHeldAt, IsReady, Adds, IsWordAt, IsWordBelow, IsForcedAt, IsQuietAt}
+use Rattle.proof_check.specs.Rounds.{no_cell, kept, kept_for, AreAtPorts, AreWordsOf, IsKept, AreKept, AreHeldAt, IsReady, Adds, IsWordAt, IsWordBelow, IsForcedAt, IsQuietAt}
 use Rattle.proof_check.proofs.Told.{AreThree, three_of, by_threes, given-at_two_places, facts_at-few}
 
 -- nothing is added where Q holds of no fact
@@ -120,6 +120,19 @@ module _ (held : List Fact) where
   kept_bit c (Some v) None there none = absurd (none v (there v refl))
   kept_bit c (Some v) (Some w) there is = refl
 
+  -- the words at chosen places are kept there
+  kept_one : (c : Cell) (chosen : Bool) (word : Option ℕ) → IsKept held c true word → IsKept held c chosen (if chosen then word else None)
+  kept_one c true word h = h
+  kept_one c false word h = refl
+
+  AreKept-of : (choice : List Bool) (cells : List Cell) (words : List (Option ℕ)) → AreWordsOf held cells words → AreKept held cells choice (kept words choice)
+  AreKept-of choice cells words h = record {
+    wide = refl;
+    first = kept_one (get_or cells 0 no_cell) (get_or choice 0 false) (get_or words 0 None) h.first;
+    second = kept_one (get_or cells 1 no_cell) (get_or choice 1 false) (get_or words 1 None) h.second;
+    third = kept_one (get_or cells 2 no_cell) (get_or choice 2 false) (get_or words 2 None) h.third;
+  }
+
   module _ (alike : AreAlike held) where
     kept_three : (choice : List Bool) (c d e : Cell) (a b z : Option ℕ) → AreKept held (c ∷ d ∷ e ∷ []) choice (a ∷ b ∷ z ∷ []) → AreHeld (λ f. IsIn held f) (c ∷ d ∷ e ∷ []) (a ∷ b ∷ z ∷ [])
     kept_three choice c d e a b z kept = record { wide = refl; held = there; alike = λ p q v w x k at l on. alike (fact x v) (fact x w) (there p v x k at) (there q w x l on) refl } where
@@ -158,6 +171,17 @@ module _ (held : List Fact) where
         let h : H (cs.a ∷ cs.b ∷ cs.z ∷ []) (os.a ∷ os.b ∷ os.z ∷ []) = subst (λ (cells : List Cell). H cells (os.a ∷ os.b ∷ os.z ∷ [])) cs.are (subst (λ (other : List (Option ℕ)). H cells other) os.are at.words) in
         let is = number_three cs.a cs.b cs.z ks.a ks.b ks.z os.a os.b os.z (omega arith) h k in
         ap number_of ks.are ∙ (is ∙ sym number)
+
+    -- held words at the ports of this number are held at exactly these
+    pub AreHeldAt-ports : (cells : List Cell) (words : List (Option ℕ)) (ports : ℕ) (known : List (Option ℕ)) → length cells ≡ 3 → AreWordsOf held cells words → AreAtPorts words ports known → AreHeldAt held cells ports known
+    AreHeldAt-ports cells words ports known three of_cells at = record {
+      number = at.number;
+      words = let H : List (Option ℕ) → Type 0 = λ known. AreHeld (λ f. IsIn held f) cells known in subst H (sym at.are) (AreHeld-kept (get_or CHOICES ports []) cells (kept_for words ports) three refl (AreKept-of (get_or CHOICES ports []) cells words of_cells));
+    }
+
+    -- where some port of this number has no held word, no words are held at exactly these
+    pub no_words : (cells : List Cell) (words : List (Option ℕ)) (ports : ℕ) → length cells ≡ 3 → ports < 7 → AreWordsOf held cells words → (number_of (kept_for words ports) ≡ ports → ⊥) → (known : List (Option ℕ)) → AreHeldAt held cells ports known → ⊥
+    no_words cells words ports three low of_cells other known at = other (number_of-kept cells ports (kept_for words ports) known three refl low (AreKept-of (get_or CHOICES ports []) cells words of_cells) at)
 
     same_word : (c : Cell) (a x : Option ℕ) → bit a ≡ bit x → ((v : ℕ) → a ≡ Some v → IsIn held (fact c v)) → ((v : ℕ) → x ≡ Some v → IsIn held (fact c v)) → a ≡ x
     same_word c None None e one other = refl
@@ -219,7 +243,6 @@ module _ (held : List Fact) where
   -- held words fit the widths
   pub WordsFit-held : (instance : Instance) (ports : ℕ) (known : List (Option ℕ)) → IsReady held instance → AreHeldAt held instance.cells ports known → WordsFit instance.widths known
   WordsFit-held instance ports known ready at p w v width word =
-      let no_cell : Cell = record { net = 0; cycle = 0 } in
       let low : p < length instance.widths = slice_get_within instance.widths p w width in
       let c : Cell = get_or instance.cells p no_cell in
       let cell : slice_get instance.cells p ≡ Some c = slice_get-get_or instance.cells p no_cell (omega (arith, ready.three, ready.widths)) in

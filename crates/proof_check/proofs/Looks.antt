@@ -18,9 +18,10 @@ use Rattle.proof_check.specs.declared.derivation.Ending.{Ending}
 use Rattle.proof_check.specs.declared.derivation.Ending.TheVariants as endings
 use Rattle.proof_check.specs.Written.{ending_of}
 use Rattle.proof_check.specs.Checking.{IsInstanceOf, IsPlaced}
-use Rattle.proof_check.specs.Rounds.{AreCalm, IsReady, IsForcedAt, IsQuietAt, IsRefutedAt, IsForcedBefore, AreLookedAt, from_here, IsFirstClash, Looks}
+use Rattle.proof_check.specs.Rounds.{AreCalm, IsReady, IsForcedAt, IsQuietAt, IsRefutedAt, IsForcedBefore, AreLookedAt, from_here, IsFirstClash, Looks, IsQuietBut, AreElsewhere}
 use Rattle.proof_check.specs.Ordered.{IsFirstPair}
 use Rattle.proof_check.specs.Turns.{AreForced, IsClashOfFacts}
+use Rattle.proof_check.proofs.Told.{facts_at-there}
 use Rattle.proof_check.proofs.HeldWords.{Adds-none, Adds-more, Adds-as}
 
 -- an option with a value
@@ -223,6 +224,39 @@ module _ (s : PresentView) (E : Set Place) (held : List Fact) where
       here_before k (by_instance p i k (facts_at instance.cells h.known)) (record { part = refl; place = refl; ports = refl }),
       record { instance = instance; known = h.known; of_instance = of_here k h.known h.words.number; held = h.words.words; port = h.port; at = h.at; forces = h.forces },
     )
+
+    -- where none of the fresh facts is at its cells, the instance says nothing new
+    pub look_past_instance : (fresh found : List Fact) → IsQuietBut s E held fresh → AreElsewhere fresh instance.cells → AreLookedAt s E held (from_here p i 0) found → AreLookedAt s E held (from_here p (i + 1) 0) found
+    look_past_instance fresh found quiet elsewhere looked = record {
+      fine = λ j before clash. elim (before_next j before) [
+        | inl earlier ↦ looked.fine j earlier clash
+        | inr here ↦ quiet.fine j (none_fresh j clash.instance clash.known here clash.of_instance) clash
+      ];
+      forced = record {
+        kept = looked.forced.kept;
+        sound = λ f h. elim (looked.forced.sound f h) [ inl none ↦ absurd none | inr (b, out) ↦ inr ((b.0, to b.0 b.1, b.2), out) ];
+        entered = λ f (j, before, h). elim (before_next j before) [
+          | inl earlier ↦ looked.forced.entered f (j, earlier, h)
+          | inr here ↦ inl (quiet.known j f (none_fresh j h.instance h.known here h.of_instance) h)
+        ];
+      };
+    } where
+      before_next : (j : Justification) → IsJustificationBefore j (from_here p (i + 1) 0) → IsJustificationBefore j (from_here p i 0) ⊎ ((j.part ≡ p) × (j.instance ≡ i))
+      before_next j (inl low) = inl (inl low)
+      before_next j (inr (e, inr (k, low))) = absurd (omega arith)
+      before_next j (inr (e, inl low)) = elim (cases_eq j.instance i) [ inl k ↦ inr (e, k) | inr other ↦ inl (inr (e, inl (omega arith))) ]
+
+      to : (j : Justification) → IsJustificationBefore j (from_here p i 0) → IsJustificationBefore j (from_here p (i + 1) 0)
+      to j (inl low) = inl low
+      to j (inr (e, inl low)) = inr (e, inl (omega arith))
+      to j (inr (e, inr (k, low))) = absurd (omega arith)
+
+      none_fresh : (j : Justification) (other : Instance) (known : List (Option ℕ)) → (j.part ≡ p) × (j.instance ≡ i) → IsOfInstance (circuit_of s) E j other known → (f : Fact) → IsIn j.from f → IsIn fresh f → ⊥
+      none_fresh j other known here o f from there =
+          let is : other ≡ instance = the_instance j other known here.0 here.1 o in
+          let Q : List Fact → Type 0 = λ facts. IsIn facts f in
+          let at : (port : ℕ) × (slice_get known port ≡ Some (Some f.value)) × (slice_get other.cells port ≡ Some f.cell) = facts_at-there other.cells known f (subst Q o.from from) in
+          elsewhere at.0 f.value f.cell (subst (λ (i : Instance). slice_get i.cells at.0 ≡ Some f.cell) is at.2) there
 
     -- one choice of ports more
     pub look_more : (k : ℕ) (old new : List Fact) → AreLookedAt s E held (from_here p i k) old → IsQuietAt held instance k old new → AreLookedAt s E held (from_here p i (k + 1)) new

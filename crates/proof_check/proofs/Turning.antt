@@ -1,5 +1,5 @@
 -- The rounds of a closing, one after another.
-use Rattle.std.proofs.Common.{◌≡◌, ◌↔◌, ℕ, zero, suc, ◌+◌, ◌*◌, ◌<◌, ◌≤◌, ◌⊎◌, inl, inr, IsTrue, List, [], ◌∷◌, ◌++◌, length, map, Some, None, slice_get, refl, sym, ap, ap₂, subst, arith}
+use Rattle.std.proofs.Common.{◌≡◌, ◌↔◌, ℕ, zero, suc, ◌+◌, ◌-◌, ◌*◌, ◌<◌, ◌≤◌, ◌⊎◌, inl, inr, IsTrue, List, [], ◌∷◌, ◌++◌, length, map, Option, Some, None, slice_get, refl, sym, ap, ap₂, subst, arith}
 use Rattle.std.specs.Option.{option_map}
 use Rattle.std.proofs.lemmas.Bool.{cases_eq, cases_lt}
 use Rattle.std.proofs.lemmas.Nat.{mul-add-lt}
@@ -10,8 +10,9 @@ use Rattle.environment_sets.proofs.Sorting.{rising_map}
 use Rattle.circuit_model.specs.declared.limits.TheConstants.{MOST_CYCLES, MOST_NETS}
 use Rattle.circuit_model.specs.declared.model.Cell.{Cell}
 use Rattle.circuit_model.specs.declared.model.Fact.{Fact}
+use Rattle.circuit_model.specs.declared.model.Instance.{Instance}
 use Rattle.circuit_model.specs.declared.model.Assumption.TheVariants.{Part}
-use Rattle.circuit_model.specs.Closure.{fact, AreTwoWords, IsForced, IsRefuted, ClashesAt}
+use Rattle.circuit_model.specs.Closure.{fact, AreHeld, AreTwoWords, IsForced, IsRefuted, ClashesAt}
 use Rattle.circuit_model.specs.Diagnoses.{Place, AtPart}
 use Rattle.circuit_model.specs.Decided.{IsLastRound}
 use Rattle.circuit_model.specs.Derivation as derivations
@@ -27,10 +28,12 @@ use Rattle.proof_check.specs.Written.{ending_of}
 use Rattle.proof_check.specs.Checking.{AreAlike, AllFit}
 use Rattle.proof_check.specs.Closing.{Timed, IsEarlier, Closes}
 use Rattle.proof_check.specs.Ordered.{AreInOrder}
+use Rattle.proof_check.specs.Rounds.{IsQuietBut}
 use Rattle.proof_check.specs.Turns.{at_round, HasAll, AreSeparate, IsClashOfFacts, AreForced, HoldsBefore, AreAtRound}
 use Rattle.proof_check.proofs.Assumed.{HasPart, part_assumed, HasReading, reading_assumed}
 use Rattle.proof_check.proofs.Fitting.{follows_fits, cells_assumed}
 use Rattle.proof_check.proofs.Instances.{AreCells}
+use Rattle.proof_check.proofs.Told.{IsIn-facts_at}
 use Rattle.proof_check.proofs.Ordered.{IsBehind, behind}
 
 -- an order that follows from another one, for the elements of the list
@@ -237,6 +240,30 @@ module _ (s : PresentView) (E : Set Place) where
 
       pub holding_fit : AllFit s holding
       holding_fit f h = follows_fits s E at.lawful f (round, (holding_exact f).0 h)
+
+      -- what is forced from facts of earlier rounds alone is held, and these do not clash
+      pub quiet_but : (round ≡ 0 → ⊥) → IsQuietBut s E holding found
+      quiet_but later = quiet_at (round - 1) (omega arith) where
+        quiet_at : (m : ℕ) → round ≡ suc m → IsQuietBut s E holding found
+        quiet_at m e = record {
+          fine = λ j none h. at.calm m (omega arith) (inr (IsRefuted-justified (H m) j (record { instance = h.instance; known = h.known; of_instance = h.of_instance; held = earlier j h.instance h.known none h.of_instance h.held; refutes = h.refutes })));
+          known = λ j f none h.
+              let forced : IsForced (IsAssumed (circuit_of s) E) (H m) f = IsForced-justified (H m) f j (record { instance = h.instance; known = h.known; of_instance = h.of_instance; held = earlier j h.instance h.known none h.of_instance h.held; port = h.port; at = h.at; forces = h.forces }) in
+              let next : H (suc m) f = inr forced in
+              (holding_exact f).1 (subst (λ (n : ℕ). H n f) (sym e) next);
+        } where
+          held_before : (f : Fact) → IsIn held f → H m f
+          held_before f h = let P : ℕ → Type 0 = λ n. HoldsBefore s E n f in subst P e ((at.before f).0 h)
+
+          earlier : (j : Justification) (instance : Instance) (known : List (Option ℕ)) → ((f : Fact) → IsIn j.from f → IsIn found f → ⊥) → IsOfInstance (circuit_of s) E j instance known → AreHeld (λ f. IsIn holding f) instance.cells known → AreHeld (H m) instance.cells known
+          earlier j instance known none o h = record {
+            wide = h.wide;
+            held = λ p v c k cell.
+                let Q : List Fact → Type 0 = λ facts. IsIn facts (fact c v) in
+                let from : IsIn j.from (fact c v) = subst Q (sym o.from) (IsIn-facts_at instance.cells known p v c k cell) in
+                elim ((is_held (fact c v)).0 (h.held p v c k cell)) [ inl new ↦ absurd (none (fact c v) from new) | inr old ↦ held_before (fact c v) old ];
+            alike = h.alike;
+          }
 
       listed_exact : (t : Timed) → IsIn listed t ↔ (IsRoundOf (circuit_of s) E t.fact t.round × (t.round ≤ round))
       listed_exact t = (

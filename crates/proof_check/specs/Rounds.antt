@@ -1,5 +1,5 @@
 -- One round of a closing: what the facts that are held force, and whether they refute.
-use Rattle.std.specs.Prelude.{◌≡◌, ℕ, ◌<◌, ◌^◌, ◌⊎◌, Bool, true, false, List, [], length, Option, Some, None, MatchOption, slice_get, slice_index_or}
+use Rattle.std.specs.Prelude.{◌≡◌, ℕ, ◌<◌, ◌^◌, ◌⊎◌, Bool, true, false, if◌then◌else◌, List, [], ◌∷◌, length, Option, Some, None, MatchOption, slice_get, slice_index_or}
 use Rattle.environment_sets.specs.Sets.{Set}
 use Rattle.environment_sets.specs.Lists.{IsIn}
 use Rattle.circuit_model.specs.declared.model.Cell.{Cell}
@@ -13,6 +13,7 @@ use Rattle.circuit_model.specs.Derivation as derivations
 use Rattle.circuit_model.specs.Derivation.{Justification, by_instance, number_of, facts_at, IsJustificationBefore, IsFirst, Justifies, JustifiesClash}
 use Rattle.circuit_model.specs.Present.{PresentView, IsLawful, circuit_of}
 use Rattle.proof_check.specs.declared.derivation.Ending.{Ending}
+use Rattle.proof_check.specs.declared.written.TheConstants.{CHOICES}
 use Rattle.proof_check.specs.Written.{ending_of}
 use Rattle.proof_check.specs.Checking.{AreAlike, AllFit}
 
@@ -44,6 +45,27 @@ pub record AreKept (held : List Fact) (cells : List Cell) (choice : List Bool) (
   pub first : IsKept held (slice_index_or cells 0 no_cell) (slice_index_or choice 0 false) (slice_index_or known 0 None)
   pub second : IsKept held (slice_index_or cells 1 no_cell) (slice_index_or choice 1 false) (slice_index_or known 1 None)
   pub third : IsKept held (slice_index_or cells 2 no_cell) (slice_index_or choice 2 false) (slice_index_or known 2 None)
+
+-- at each of three places a held word of the cell, if it has one
+abbrev pub AreWordsOf : List Fact → List Cell → List (Option ℕ) → Type 0
+AreWordsOf held cells words = AreKept held cells (true ∷ true ∷ true ∷ []) words
+
+-- the word at the place, if the place is chosen
+abbrev pub kept_at : List (Option ℕ) → List Bool → ℕ → Option ℕ
+kept_at words choice place = if slice_index_or choice place false then slice_index_or words place None else None
+
+-- the words at the chosen ones of three places
+abbrev pub kept : List (Option ℕ) → List Bool → List (Option ℕ)
+kept words choice = kept_at words choice 0 ∷ kept_at words choice 1 ∷ kept_at words choice 2 ∷ []
+
+-- the words at the ports of this number
+abbrev pub kept_for : List (Option ℕ) → ℕ → List (Option ℕ)
+kept_for words ports = kept words (slice_index_or CHOICES ports [])
+
+-- the words at the ports of this number, each of which has one
+pub record AreAtPorts (words : List (Option ℕ)) (ports : ℕ) (known : List (Option ℕ)) : Type 0 where
+  pub are : known ≡ kept_for words ports
+  pub number : ports ≡ number_of known
 
 -- words at exactly the ports of this number, all of them held
 pub record AreHeldAt (held : List Fact) (cells : List Cell) (ports : ℕ) (known : List (Option ℕ)) : Type 0 where
@@ -83,6 +105,15 @@ pub record IsRefutedAt (held : List Fact) (part place ports : ℕ) (instance : I
   pub words : AreHeldAt held instance.cells ports known
   pub refutes : Refutes instance.prim instance.widths known
   pub told : ending_of ending ≡ derivations.Refuted part place ports (facts_at instance.cells known)
+
+-- justifications from none of the fresh facts do not refute, and force only what is held
+pub record IsQuietBut (s : PresentView) (E : Set Place) (held fresh : List Fact) : Type 0 where
+  pub fine : (j : Justification) → ((f : Fact) → IsIn j.from f → IsIn fresh f → ⊥) → JustifiesClash (circuit_of s) E (IsIn held) j → ⊥
+  pub known : (j : Justification) (f : Fact) → ((f : Fact) → IsIn j.from f → IsIn fresh f → ⊥) → Justifies (circuit_of s) E (IsIn held) f j → IsIn held f
+
+-- none of the facts is at one of the cells
+abbrev pub AreElsewhere : List Fact → List Cell → Type 0
+AreElsewhere facts cells = (port v : ℕ) (c : Cell) → slice_get cells port ≡ Some c → IsIn facts (fact c v) → ⊥
 
 -- some justification before this one forces the fact from what is held
 abbrev pub IsForcedBefore : PresentView → Set Place → List Fact → Justification → Fact → Type 0

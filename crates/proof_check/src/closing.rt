@@ -1,6 +1,6 @@
 // The closing of one environment.
 
-ghost use Rattle.std.specs.Prelude.{◌≡◌, ◌+◌, ◌⊎◌, ◌↔◌, [], ◌++◌, IfOk, OnOk, MatchOption, length, map};
+ghost use Rattle.std.specs.Prelude.{◌≡◌, ◌+◌, ◌⊎◌, ◌↔◌, [], ◌++◌, false, IfOk, OnOk, MatchOption, length, map};
 ghost use Rattle.environment_sets.specs.Lists.{IsIn};
 ghost use Rattle.circuit_model.specs.declared.model.Fact.{Fact};
 ghost use Rattle.circuit_model.specs.declared.model.Assumption.TheVariants.{Reading};
@@ -10,6 +10,7 @@ ghost use Rattle.circuit_model.specs.Present.{IsLawful, circuit_of};
 ghost use Rattle.proof_check.specs.Checking.{AllFit};
 ghost use Rattle.proof_check.specs.Closing.{Closes};
 ghost use Rattle.proof_check.specs.Ordered.{AreInOrder};
+ghost use Rattle.proof_check.specs.Rounds.{IsQuietBut};
 ghost use Rattle.proof_check.specs.Written.{ending_of};
 ghost use Rattle.proof_check.specs.Turns.{at_round, HasAll, AreSeparate, AreForced, IsClashOfFacts, IsAtRound, Turns};
 
@@ -24,7 +25,7 @@ use std::alloc::{AllocError, Global};
 /// A closing that is going on: the facts of earlier rounds, as they are listed and in order, and those that first hold
 /// at this round.
 #[derive(Drop)]
-pub struct Closing {
+struct Closing {
     timed: Vec<Timed>,
     held: Facts,
     found: Facts,
@@ -33,7 +34,7 @@ pub struct Closing {
 
 /// What a round comes to.
 #[derive(Clone, Copy)]
-pub enum Turn {
+enum Turn {
     /// Another one adds facts.
     Goes,
     /// Nothing is added after it.
@@ -121,7 +122,14 @@ fn go_on(
         closing.round,
     )?;
     let mut found = Facts::new(alloc);
-    let clash = forced(present, chosen, &closing.held, &mut found)?;
+    let round = Round {
+        present,
+        chosen,
+        held: &closing.held,
+        fresh: &closing.found,
+        is_first: closing.round == 0,
+    };
+    let clash = forced(&round, &mut found)?;
     if let Some(ending) = clash {
         return Ok(Turn::Clashes(ending));
     }
@@ -156,26 +164,17 @@ fn hold(
 }
 
 /// The clash of the facts, if they clash; else what is forced from them and is none of them.
-fn forced(
-    present: &Present,
-    chosen: &Chosen,
-    held: &Facts,
-    found: &mut Facts,
-) -> Result<Option<Ending>, AllocError>
-    requires lawful { IsLawful present.now }
-    requires fit { AllFit present.now held.now }
+fn forced(round: &Round, found: &mut Facts) -> Result<Option<Ending>, AllocError>
+    requires lawful { IsLawful round.now.present.now }
+    requires fit { AllFit round.now.present.now round.now.held.now }
+    requires quiet { round.now.is_first ≡ false → IsQuietBut round.now.present.now (chosen_places round.now.chosen.now) round.now.held.now round.now.fresh.now }
     requires empty { found.old ≡ [] }
-    ensures { IfOk result (λ clash. MatchOption clash (AreForced present.now (chosen_places chosen.now) held.now found.new) (λ ending. IsClashOfFacts present.now (chosen_places chosen.now) held.now (ending_of ending))) }
+    ensures { IfOk result (λ clash. MatchOption clash (AreForced round.now.present.now (chosen_places round.now.chosen.now) round.now.held.now found.new) (λ ending. IsClashOfFacts round.now.present.now (chosen_places round.now.chosen.now) round.now.held.now (ending_of ending))) }
 {
-    let pair = held.first_pair();
+    let pair = round.held.first_pair();
     if pair.is_some() {
         return Ok(pair);
     }
-    let round = Round {
-        present,
-        chosen,
-        held,
-    };
-    let clash = look(&round, found)?;
+    let clash = look(round, found)?;
     Ok(clash)
 }

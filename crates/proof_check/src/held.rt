@@ -1,8 +1,9 @@
 // What held words at some ports of an instance say.
 
-ghost use Rattle.std.specs.Prelude.{◌≡◌, ◌<◌, ℕ, List, Option, IfOk, MatchOption, length};
+ghost use Rattle.std.specs.Prelude.{◌≡◌, ◌≢◌, ◌<◌, if◌then◌else◌, IfOk, MatchOption, None, length};
+ghost use Rattle.circuit_model.specs.Derivation as derivations;
 ghost use Rattle.proof_check.specs.Checking.{AreAlike};
-ghost use Rattle.proof_check.specs.Rounds.{AreHeldAt, AreKept, IsKept, IsReady, Adds, IsWordAt, IsWordBelow, IsQuietAt, IsRefutedAt};
+ghost use Rattle.proof_check.specs.Rounds.{AreAtPorts, AreWordsOf, kept, kept_for, IsReady, Adds, IsWordAt, IsWordBelow, IsQuietAt, IsRefutedAt};
 
 use crate::conclusions::conclusions;
 use crate::derivation::Ending;
@@ -11,12 +12,13 @@ use crate::written::{CHOICES, facts_known, number_of};
 use circuit_model::{Cell, Fact, Instance};
 use std::alloc::AllocError;
 
-/// An instance, by its place in the component at the position `part`.
+/// An instance, by its place in the component at the position `part`, and the held words of its cells.
 #[derive(Clone, Copy)]
 pub struct Site {
     pub part: u16,
     pub place: u16,
     pub instance: Instance,
+    pub words: [Option<u64>; 3],
 }
 
 /// Adds what held words at exactly the ports of this number force, but for what is held; or tells that they refute.
@@ -29,9 +31,10 @@ pub fn look_at_ports(
     requires ports { ports < length CHOICES }
     requires alike { AreAlike held.now }
     requires ready { IsReady held.now site.now.instance }
+    requires words { AreWordsOf held.now site.now.instance.cells site.now.words }
     ensures { IfOk result (λ clash. MatchOption clash (IsQuietAt held.now site.now.instance ports found.old found.new) (IsRefutedAt held.now site.now.part site.now.place ports site.now.instance)) }
 {
-    let Some(known) = words_held(&site.instance.cells, ports, held) else {
+    let Some(known) = words_at_ports(&site.words, ports) else {
         return Ok(None);
     };
     let said = conclusions(&site.instance, known);
@@ -47,39 +50,39 @@ pub fn look_at_ports(
     Ok(None)
 }
 
-/// The held words at the ports, where each of these has one.
-fn words_held(cells: &[Cell; 3], ports: u8, held: &Facts) -> Option<[Option<u64>; 3]>
-    requires ports { ports < length CHOICES }
-    requires alike { AreAlike held.now }
-    ensures { MatchOption result ((known : List (Option ℕ)) → AreHeldAt held.now cells.now ports known → ⊥) (AreHeldAt held.now cells.now ports) }
+/// The words at the ports, where each of these has one.
+fn words_at_ports(words: &[Option<u64>; 3], ports: u8) -> Option<[Option<u64>; 3]>
+    requires { ports < length CHOICES }
+    ensures { MatchOption result (derivations.number_of (kept_for words.now ports) ≢ ports) (AreAtPorts words.now ports) }
 {
-    let known = keep(cells, &CHOICES[ports as usize], held);
+    let known = keep(words, &CHOICES[ports as usize]);
     if number_of(&known) != ports {
         return None;
     }
     Some(known)
 }
 
-/// The held words at the chosen places.
-fn keep(cells: &[Cell; 3], choice: &[bool; 3], held: &Facts) -> [Option<u64>; 3]
-    ensures { AreKept held.now cells.now choice.now result }
+/// The words at the chosen places.
+fn keep(words: &[Option<u64>; 3], choice: &[bool; 3]) -> [Option<u64>; 3]
+    ensures { result ≡ kept words.now choice.now }
 {
-    let [c, d, e] = *cells;
+    let [a, b, z] = *words;
     let [first, second, third] = *choice;
-    [
-        keep_at(c, first, held),
-        keep_at(d, second, held),
-        keep_at(e, third, held),
-    ]
+    [keep_if(first, a), keep_if(second, b), keep_if(third, z)]
 }
 
-fn keep_at(cell: Cell, chosen: bool, held: &Facts) -> Option<u64>
-    ensures { IsKept held.now cell chosen result }
+fn keep_if(chosen: bool, word: Option<u64>) -> Option<u64>
+    ensures { result ≡ (if chosen then word else None) }
 {
-    if !chosen {
-        return None;
-    }
-    held.word_at(cell)
+    if chosen { word } else { None }
+}
+
+/// The held words of the cells.
+pub fn words_of(cells: &[Cell; 3], held: &Facts) -> [Option<u64>; 3]
+    ensures { AreWordsOf held.now cells.now result }
+{
+    let [c, d, e] = *cells;
+    [held.word_at(c), held.word_at(d), held.word_at(e)]
 }
 
 /// Adds the words at the cells, but for what is held.

@@ -11,7 +11,7 @@ pub forcing_in-requires-clause-few : goal.forcing_in-requires-clause-few
 forcing_in-requires-clause-few c = few_of_part c.args.present.now c.parts.ensures.lawful c.args.position c.part_at.result.now c.part_at.ensures
 
 pub forcing_in-requires-clause-fit : goal.forcing_in-requires-clause-fit
-forcing_in-requires-clause-fit c = words_fit c.args.present.now c.parts.ensures.lawful c.args.closed.now.facts c.args.round c.requires c.args.position c.part_at.result.now c.part_at.ensures
+forcing_in-requires-clause-fit c = words_fit c.args.present.now c.parts.ensures.lawful c.args.closed.now.facts c.args.round c.requires.fit c.args.position c.part_at.result.now c.part_at.ensures
 
 pub returns : goal.returns
 returns c =

@@ -1,4 +1,4 @@
-use Rattle.std.proofs.Common.{ℕ, ◌<◌, ◌≤◌, length, Some, slice_get, below_more, refl, arith}
+use Rattle.std.proofs.Common.{ℕ, ◌<◌, length, below_more, refl, arith}
 use Rattle.std.proofs.lemmas.Option.{slice_get_within}
 use Rattle.explanations.specs.Forcing.{IsForcingIn}
 use Rattle.explanations.proofs.Forced.{first_in, forcing_there}

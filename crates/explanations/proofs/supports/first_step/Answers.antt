@@ -1,4 +1,4 @@
-use Rattle.std.proofs.Common.{◌≡◌, ℕ, ◌<◌, length, Some, slice_get, below_more, refl, sym, ap, subst, ◌∙◌, arith}
+use Rattle.std.proofs.Common.{◌≡◌, ℕ, ◌<◌, length, Some, slice_get, below_more, refl, sym, ap, subst, arith}
 use Rattle.std.proofs.lemmas.Option.{slice_get_within}
 use Rattle.environment_sets.proofs.Membership.{IsIn-slice_get, slice_get-IsIn}
 use Rattle.circuit_model.specs.Chosen.{chosen_places}
@@ -11,8 +11,8 @@ use Rattle.explanations.proofs.Closings.{told_fit}
 use Rattle.explanations.proofs.Joined.{first_justifies, forcing_at_part, smaller_before}
 use Rattle.explanations.proofs.supports.first_step.Goals as goal
 
-pub forcing_at-requires : goal.forcing_at-requires
-forcing_at-requires c = told_fit c.args.present.now c.requires.lawful (chosen_places c.args.chosen.now) c.args.closed.now.facts c.args.round c.requires.told
+pub forcing_at-requires-clause-fit : goal.forcing_at-requires-clause-fit
+forcing_at-requires-clause-fit c = told_fit c.args.present.now c.requires.lawful (chosen_places c.args.chosen.now) c.args.closed.now.facts c.args.round c.requires.told
 
 pub returns-in-Some : goal.returns-in-Some
 returns-in-Some c =
@@ -20,7 +20,7 @@ returns-in-Some c =
     subst Q (sym (ap step_of c.inferred.ensures)) (
       refl,
       first_justifies c.args.present.now c.requires.lawful (chosen_places c.args.chosen.now) c.args.closed.now.facts c.args.round c.requires.told c.args.fact c.at-part.result
-      ((position_chosen c.args.chosen.now.parts c.at-part.result).0 (IsIn-slice_get c.args.chosen.now.parts c.loop-i.i c.at-part.result c.at-part.ensures)) c.in-Some.found c.in-Some.ensures (λ p less chosen place ports h.
+          ((position_chosen c.args.chosen.now.parts c.at-part.result).0 (IsIn-slice_get c.args.chosen.now.parts c.loop-i.i c.at-part.result c.at-part.ensures)) c.in-Some.found c.in-Some.ensures (λ p less chosen place ports h.
           let at : (k : ℕ) × (slice_get c.args.chosen.now.parts k ≡ Some p) = slice_get-IsIn c.args.chosen.now.parts p ((position_chosen c.args.chosen.now.parts p).1 chosen) in
           c.loop-i.invariant at.0 (smaller_before c.args.chosen.now.parts c.len-i-end.ensures.rising c.loop-i.i at.0 c.at-part.result p c.at-part.ensures at.1 less) p at.1 place ports h),
     )
@@ -28,9 +28,9 @@ returns-in-Some c =
 pub loop-i-preserved : goal.loop-i-preserved
 loop-i-preserved c =
     below_more (λ (k : ℕ). (position : ℕ) → slice_get c.args.chosen.now.parts k ≡ Some position → (place ports : ℕ) → IsForcingAt (circuit_of c.args.present.now) c.args.closed.now.facts c.args.round c.args.fact position place ports → ⊥) c.loop-i.i c.loop-i.invariant (λ position at place ports h.
-        let here = c.at-part.ensures in
-        let same : position ≡ c.at-part.result = cc in
-        c.in_default.ensures place ports (subst (λ (p : ℕ). IsForcingAt (circuit_of c.args.present.now) c.args.closed.now.facts c.args.round c.args.fact p place ports) same h))
+    let here = c.at-part.ensures in
+    let same : position ≡ c.at-part.result = cc in
+    c.in_default.ensures place ports (subst (λ (p : ℕ). IsForcingAt (circuit_of c.args.present.now) c.args.closed.now.facts c.args.round c.args.fact p place ports) same h))
 
 pub returns : goal.returns
 returns c j h =

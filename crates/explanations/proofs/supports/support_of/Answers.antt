@@ -1,4 +1,4 @@
-use Rattle.std.proofs.Common.{◌≡◌, ℕ, suc, ◌-◌, ◌<◌, ◌≤◌, subst, arith}
+use Rattle.std.proofs.Common.{◌≡◌, ℕ, suc, ◌-◌, ◌≤◌, subst, arith}
 use Rattle.circuit_model.specs.Chosen.{chosen_places}
 use Rattle.circuit_model.specs.Derivation.{IsRoundOf}
 use Rattle.circuit_model.specs.Present.{circuit_of}

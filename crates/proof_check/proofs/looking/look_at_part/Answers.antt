@@ -23,12 +23,12 @@ look_at_instance-requires-clause-there c = record {
   chosen = (position_chosen c.args.round.now.chosen.now.parts c.args.part).0 (c.has_place.ensures.0 c.if-not-has_place.false);
   part = c.part_at-component.result.now.part;
   at_position = slice_get-map (λ (d : Component). d.part) c.args.round.now.present.now.parts c.args.part ∙ ap (option_map (λ (d : Component). d.part)) c.part_at-component.ensures;
-  at_place = c.at.ensures.instance;
+  at_place = c.at-instance.ensures.instance;
 }
 
 pub look_at_instance-requires-clause-placed : goal.look_at_instance-requires-clause-placed
 look_at_instance-requires-clause-placed c =
-    placed c.args.round.now.present.now c.requires.calm.lawful c.args.part c.part_at-component.result.now c.part_at-component.ensures c.at.result.now (IsIn-slice_get c.part_at-component.result.now.part c.loop-place.place c.at.result.now c.at.ensures.instance) c.at.ensures.lawful
+    placed c.args.round.now.present.now c.requires.calm.lawful c.args.part c.part_at-component.result.now c.part_at-component.ensures c.at-instance.result.now (IsIn-slice_get c.part_at-component.result.now.part c.loop-place.place c.at-instance.result.now c.at-instance.ensures.instance) c.at-instance.ensures.lawful
 
 pub returns : goal.returns
 returns c =
