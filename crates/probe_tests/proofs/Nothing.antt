@@ -1,19 +1,16 @@
 -- A present without components and measurements, and its one diagnosis.
-use Rattle.std.proofs.Common.{◌≡◌, ℕ, ◌<◌, inl, inr, Bool, not, nat_lt, true, false, IsTrue, true≢false, List, [], ◌∷◌, length, map, Option, Some, None, IsSome, refl, sym, ap, subst, ◌∙◌, arith}
+use Rattle.std.proofs.Common.{◌≡◌, ℕ, ◌<◌, inl, inr, not, nat_lt, IsTrue, true≢false, [], ◌∷◌, length, map, Option, Some, None, IsSome, sym, ap, subst, arith}
 use Rattle.std.proofs.lemmas.Bool.{and_parts, ltb-true}
-use Rattle.circuit_model.specs.declared.model.Cell.{Cell}
-use Rattle.circuit_model.specs.declared.model.Fact.{Fact}
-use Rattle.circuit_model.specs.Diagnoses.{Circuit, IsDiagnosis}
-use Rattle.circuit_model.specs.Present.{PresentView, circuit_of, empty_present}
+use Rattle.circuit_model.specs.Diagnoses.{IsDiagnosis}
+use Rattle.circuit_model.specs.Present.{PresentView, circuit_of}
 use Rattle.circuit_model.specs.Probe.{AreDiagnoses}
 use Rattle.circuit_model.specs.declared.model.Assumption.TheVariants.{Part, Reading}
 use Rattle.circuit_model.specs.Stock.{Stock}
 use Rattle.circuit_model.proofs.Diagnoses.{readings_are_consistent}
 use Rattle.circuit_model.proofs.Settled.{same_set}
-use Rattle.environment_sets.specs.Sets.{Set, ◌⊆◌, others}
-use Rattle.environment_sets.specs.Lists.{IsIn}
-use Rattle.standing_view.specs.Positions.{positions, AreInParts}
-use Rattle.standing_view.specs.Standing.{Stands, nothing_stands, parts_of}
+use Rattle.environment_sets.specs.Sets.{Set, others}
+use Rattle.standing_view.specs.Positions.{positions}
+use Rattle.standing_view.specs.Standing.{nothing_stands}
 use Rattle.standing_view.specs.View.{StandsFor}
 
 none_is_not : {A : Type 0} (o : Option A) → o ≡ None → IsSome o → ⊥

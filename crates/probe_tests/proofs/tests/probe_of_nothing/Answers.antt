@@ -1,4 +1,4 @@
-use Rattle.std.proofs.Common.{◌≡◌, ℕ, IsTrue, true≢false, inl, inr, List, [], ◌∷◌, sym, subst, ◌∙◌, arith}
+use Rattle.std.proofs.Common.{ℕ, IsTrue, true≢false, inl, inr, [], ◌∷◌, sym, subst, ◌∙◌, arith}
 use Rattle.assumption_slots.specs.Slots.{stock}
 use Rattle.circuit_model.specs.Present.{circuit_of}
 use Rattle.circuit_model.specs.Probe.{AreDiagnoses}
