@@ -16,4 +16,6 @@ mod refusals;
 #[cfg(test)]
 mod running;
 #[cfg(test)]
+mod sessions;
+#[cfg(test)]
 mod words;

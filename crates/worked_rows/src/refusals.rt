@@ -58,7 +58,7 @@ fn each_by_its_first_check(rt: HostRuntime) -> Result<(), Fail> {
 }
 
 // Lines that are refused after a net N of width 4 and the lines of `SESSION`, with their replies.
-const REFUSED: [(&[u8], &[u8]); 69] = [
+const REFUSED: [(&[u8], &[u8]); 73] = [
     (b"net C 0", b"no 22 bad width\n"),
     (b"net C 33", b"no 22 bad width\n"),
     (b"net C", b"no 13 wrong word count\n"),
@@ -121,12 +121,17 @@ const REFUSED: [(&[u8], &[u8]); 69] = [
     (b"pin T A 1", b"no 48 unknown block\n"),
     (b"inside T and G A B Z", b"no 48 unknown block\n"),
     (b"use T U A B", b"no 48 unknown block\n"),
+    // no measurement, no label, no conflict
+    (b"retract Z", b"no 41 not measured\n"),
+    (b"retract Q", b"no 21 unknown net\n"),
+    (b"retract A@1", b"no 24 bad cycle\n"),
+    (b"explain Z 13", b"no 43 no such value\n"),
+    (b"explain Z 256", b"no 25 value does not fit\n"),
+    (b"explain Z@1 256", b"no 24 bad cycle\n"),
+    (b"explain Q 1", b"no 21 unknown net\n"),
+    (b"why 0", b"no 44 no such conflict\n"),
+    (b"why 1", b"no 44 no such conflict\n"),
     // not answered yet
-    (b"retract A", b"no 50 not built\n"),
-    (b"undo", b"no 50 not built\n"),
-    (b"probe", b"no 50 not built\n"),
-    (b"explain Z 12", b"no 50 not built\n"),
-    (b"why 1", b"no 50 not built\n"),
     (b"modes 4", b"no 50 not built\n"),
     (b"open S", b"no 50 not built\n"),
     // no number of diagnoses that may be asked for

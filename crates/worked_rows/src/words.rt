@@ -7,7 +7,7 @@ use std::test::Fail;
 #[test]
 fn other_words(rt: HostRuntime) -> Result<(), Fail> {
     let alloc = rt.alloc();
-    let usage = b"usage: gde run | run order N | make N SEED\n".as_slice();
+    let usage = b"usage: gde run | run order N | make N SEED | audit\n".as_slice();
     for word in ["", "Run", "run ", "runs", "make"] {
         let (status, sink) = ran(alloc, word, b"net A 8\n", 7, 1, NEVER)?;
         assert!(rt; status == Status::Usage, "{word}");
