@@ -1,0 +1,5 @@
+// Answers as texts, written out by hand.
+#![tactic(auto)]
+
+#[cfg(test)]
+mod texts;
