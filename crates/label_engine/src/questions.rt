@@ -53,6 +53,17 @@ impl Engine {
         }
     }
 
+    /// The environments that are kept for the fact, each once, in no order that is told: its label over all that is
+    /// remembered.
+    pub fn label(&self, fact: Fact) -> &[Env]
+        ensures { result.now ≡ label_of self.now.kept fact }
+    {
+        match self.update.nodes.label(&fact) {
+            Some(label) => label.members(),
+            None => &[],
+        }
+    }
+
     /// The first nogood, after the last one, of the assumptions of the mask alone.
     pub fn nogood_after(&self, mask: &Env, order: &[u16], last: Option<&Env>) -> Option<Env>
         requires mask { IsEnvironment (stock self.now.slots) (members mask.now) }

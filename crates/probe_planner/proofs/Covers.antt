@@ -2,11 +2,9 @@
 use Rattle.std.proofs.Common.{◌≡◌, ℕ, ◌<◌, ◌≤◌, ◌⊎◌, inl, inr, Bool, true, false, not, ◌&&◌, ◌||◌, ◌==◌, IsTrue, List, [], ◌∷◌, ◌++◌, length, get_or, take, ◌+◌, Option, Some, None, refl, sym, ap, subst, ◌∙◌, arith, ◌↔◌}
 use Rattle.std.proofs.lemmas.List.{take_more, take_all}
 use mathlib.Core.Path.{fun_ext}
-use Rattle.assumption_slots.specs.Slots.{stock}
 use Rattle.circuit_model.specs.declared.model.Cell.{Cell}
 use Rattle.circuit_model.specs.Closure.{fact}
-use Rattle.circuit_model.specs.Settled.{AreExact}
-use Rattle.circuit_model.specs.Stock.{IsInLabel, within}
+use Rattle.circuit_model.specs.Stock.{within}
 use Rattle.environment_sets.specs.declared.environment.Env.{Env}
 use Rattle.environment_sets.specs.declared.environment.TheConstants.{SLOTS}
 use Rattle.environment_sets.specs.Families.{IsCovered}
@@ -14,12 +12,11 @@ use Rattle.environment_sets.specs.Lists.{IsIn, IsRising, IsListing}
 use Rattle.environment_sets.specs.Members.{members, HasMember}
 use Rattle.environment_sets.specs.Sets.{Set, ◌⊆◌, ◌∖◌, is_within}
 use Rattle.environment_sets.proofs.Listings.{IsRising-push, IsIn-push, IsIn-front, IsIn-last}
-use Rattle.environment_sets.proofs.Membership.{same_bool, IsIn-map, map-IsIn, list_any-IsIn, IsIn-list_any}
+use Rattle.environment_sets.proofs.Membership.{IsIn-map, map-IsIn, list_any-IsIn, IsIn-list_any}
 use Rattle.environment_sets.proofs.Slots.{slots_are_below}
 use Rattle.environment_sets.proofs.Within.{within_holds, holds_within}
 use Rattle.label_engine.specs.Engine.{Seen, label_of, label_at}
 use Rattle.label_engine.specs.Questions.{IsAbove, IsNextNumber, GivesNextNumber}
-use Rattle.label_engine.proofs.Masks.{label_within}
 use Rattle.standing_view.specs.Standing.{is_among}
 use Rattle.probe_planner.specs.Covering.{covers, is_covered}
 
@@ -36,16 +33,6 @@ covers_by label E = (
 pub is_covered_by : (seen : Seen) (c : Cell) (v : ℕ) (E : Set ℕ) → IsTrue (is_covered seen c v E) ↔ IsCovered (label_at seen (fact c v)) E
 unfolding is_covered
 is_covered_by seen c v E = covers_by (label_of seen.kept (fact c v)) E
-
--- of a set that is inside the mask, a list of exactly the label over the mask covers what the label covers
-pub covers_alike :
-    (seen : Seen) (M : Set ℕ) (c : Cell) (v : ℕ) (label : List Env) (N : Set ℕ → Type 0) → AreExact (stock seen.slots) (label_at seen) N
-    → ((F : Set ℕ) → HasMember label F ↔ IsInLabel (within M (stock seen.slots)) (fact c v) F) → (E : Set ℕ) → E ⊆ M → covers label E ≡ is_covered seen c v E
-covers_alike seen M c v label N is exact E inside = same_bool (covers label E) (is_covered seen c v E)
-    (λ h. let m : IsCovered (HasMember label) E = (covers_by label E).0 h in
-    (is_covered_by seen c v E).1 (m.0, (is.labels (fact c v) m.0).1 ((label_within M (stock seen.slots) (fact c v) m.0).0 ((exact m.0).0 m.1)).0, m.2))
-    (λ h. let m : IsCovered (label_at seen (fact c v)) E = (is_covered_by seen c v E).0 h in
-    (covers_by label E).1 (m.0, (exact m.0).1 ((label_within M (stock seen.slots) (fact c v) m.0).1 ((is.labels (fact c v) m.0).0 m.1, λ k at. inside k (m.2 k at))), m.2))
 
 -- ---- what stands outside a diagnosis, slot by slot
 

@@ -24,7 +24,7 @@ use Rattle.probe_planner.specs.Covering.{is_covered, rest}
 use Rattle.probe_planner.specs.Planning.{CanBePlanned}
 use Rattle.probe_planner.specs.Weighing.{cost_at, weight_at}
 use Rattle.probe_planner.specs.Words.{CanBeScored, weight_of_word, score_by, IsScored}
-use Rattle.probe_planner.proofs.Predicting.{outside_stands, covers_predictions, covering_words}
+use Rattle.probe_planner.proofs.Predicting.{covers_predictions, covering_words}
 use Rattle.probe_planner.proofs.Scoring.{score_by_words, first_word, first_word-sound, first_word-none, first_is_word, weight_by_sets, total_by_sets, rising_distinct}
 
 -- what lists of images have, place by place
@@ -61,9 +61,7 @@ module _ (seen : Seen) (st : Stands) (s : PresentView) (w : Weighed) (can : CanB
 
   pub can_be_scored : (c : Cell) → CanBeScored seen st w c
   can_be_scored c = record {
-    exact = can.exact;
     remembered = the_mask_is_remembered (stock seen.slots) st s can.parked can.stands;
-    inside = λ E h k at. let D = of_rest E h in outside_stands (stock seen.slots) st s can.parked can.stands D.0 (can.inside D.0 D.1) k (subst (λ (F : Set ℕ). IsTrue (F k)) (sym D.2) at);
     one_word = λ E h u v a b. let D = of_rest E h in one_at_most c D.0 D.1 u v (subst (λ (F : Set ℕ). IsTrue (is_covered seen c u F)) (sym D.2) a) (subst (λ (F : Set ℕ). IsTrue (is_covered seen c v F)) (sym D.2) b);
     as_many = ap length can.weighed.weights ∙ (length-map can.diagnoses (weight_at st s) ∙ (sym (length-map can.diagnoses (rest st)) ∙ (ap length (sym can.weighed.rests) ∙ length-map w.rests.now members)));
     total = can.weighed.total;

@@ -4,21 +4,18 @@ use Rattle.std.proofs.lemmas.List.{map-append}
 use Rattle.assumption_slots.specs.Slots.{stock}
 use Rattle.circuit_model.specs.declared.model.Cell.{Cell}
 use Rattle.circuit_model.specs.Closure.{fact}
-use Rattle.circuit_model.specs.Stock.{IsInLabel, within}
+use Rattle.circuit_model.specs.Stock.{within}
 use Rattle.environment_sets.specs.declared.environment.Env.{Env}
 use Rattle.environment_sets.specs.Costs.{cost_in}
-use Rattle.environment_sets.specs.Lists.{IsListing}
-use Rattle.environment_sets.specs.Members.{members, sets}
-use Rattle.environment_sets.specs.Orders.{ComesBefore}
-use Rattle.environment_sets.proofs.CostSums.{cost_in-agree}
+use Rattle.environment_sets.specs.Members.{members}
 use Rattle.environment_sets.proofs.Membership.{map-IsIn}
-use Rattle.label_engine.specs.Engine.{Seen}
+use Rattle.label_engine.specs.Engine.{Seen, label_of}
 use Rattle.label_engine.specs.Questions.{IsNextNumber, GivesNextNumber, HasLabel}
-use Rattle.standing_view.specs.Standing.{Stands, order_of, mask_of}
+use Rattle.standing_view.specs.Standing.{Stands, mask_of}
 use Rattle.probe_planner.specs.declared.weights.Weighed.{Weighed}
 use Rattle.probe_planner.specs.Covering.{covers, is_covered}
 use Rattle.probe_planner.specs.Words.{CanBeScored, weight_of_word, AreWordWeights}
-use Rattle.probe_planner.proofs.Covers.{covers_alike, ListsNumbers, no_numbers, more_numbers, all_numbers}
+use Rattle.probe_planner.proofs.Covers.{ListsNumbers, no_numbers, more_numbers, all_numbers}
 use Rattle.probe_planner.proofs.Scoring.{words_within, rising_distinct}
 
 module _ (seen : Seen) (st : Stands) (w : Weighed) (c : Cell) where
@@ -31,10 +28,10 @@ module _ (seen : Seen) (st : Stands) (w : Weighed) (c : Cell) where
   pub weighs_none : Weighs None []
   weighs_none = record { words = []; lists = no_numbers _; each = refl }
 
-  -- by the label of what stands, the weight is that of the word
-  pub weight_is : CanBeScored seen st w c → (v : ℕ) (label : List Env) → IsListing (ComesBefore (order_of st)) (IsInLabel (within (mask_of st) (stock seen.slots)) (fact c v)) (sets label) → cost_in w.rests.now w.weights.now (λ r. covers label (members r)) ≡ weight_of_word seen w c v
-  weight_is can v label listing =
-      cost_in-agree w.rests.now w.weights.now (λ r. covers label (members r)) (λ r. is_covered seen c v (members r)) (λ r h. covers_alike seen (mask_of st) c v label _ can.exact listing.exact (members r) (can.inside (members r) (map-IsIn members w.rests.now r h)))
+  -- by the label that is kept, the weight is that of the word
+  pub weight_is : (v : ℕ) (label : List Env) → label ≡ label_of seen.kept (fact c v) → cost_in w.rests.now w.weights.now (λ r. covers label (members r)) ≡ weight_of_word seen w c v
+  unfolding is_covered
+  weight_is v label same = ap (λ (es : List Env). cost_in w.rests.now w.weights.now (λ r. covers es (members r))) same
 
   pub weighs_more : (last : Option ℕ) (weights : List ℕ) → Weighs last weights → (v n : ℕ) → IsNextNumber (HasLabel (within (mask_of st) (stock seen.slots)) c) last v → n ≡ weight_of_word seen w c v → Weighs (Some v) (weights ++ n ∷ [])
   weighs_more last weights was v n next same = record {

@@ -4,24 +4,20 @@ use Rattle.std.specs.List.{sum_by}
 use Rattle.assumption_slots.specs.Slots.{stock}
 use Rattle.circuit_model.specs.declared.limits.TheConstants.{MOST_COST, MOST_DIAGNOSES}
 use Rattle.circuit_model.specs.declared.model.Cell.{Cell}
-use Rattle.circuit_model.specs.Settled.{AreExact}
 use Rattle.circuit_model.specs.Stock.{IsEnvironment, within}
 use Rattle.environment_sets.specs.Costs.{cost_in}
-use Rattle.environment_sets.specs.Lists.{IsIn, IsListing}
-use Rattle.environment_sets.specs.Members.{members, sets, HasMember}
-use Rattle.environment_sets.specs.Sets.{Set, ◌⊆◌}
-use Rattle.label_engine.specs.Engine.{Seen, label_at}
+use Rattle.environment_sets.specs.Lists.{IsListing}
+use Rattle.environment_sets.specs.Members.{members, sets}
+use Rattle.label_engine.specs.Engine.{Seen}
 use Rattle.label_engine.specs.Questions.{HasLabel}
 use Rattle.standing_view.specs.Standing.{Stands, mask_of}
 use Rattle.probe_planner.specs.declared.weights.Weighed.{Weighed}
 use Rattle.probe_planner.specs.Covering.{is_covered, CoverOneWord}
 
--- what can be scored at the cell: the engine is exact, each rest stands, predicts one word at most and has its weight,
--- and the weight of all is small enough to be squared
+-- what can be scored at the cell: what stands is remembered, each rest predicts one word at most and has its weight, and
+-- the weight of all is small enough to be squared
 pub record CanBeScored (seen : Seen) (st : Stands) (w : Weighed) (c : Cell) : Type 0 where
-  pub exact : AreExact (stock seen.slots) (label_at seen) (HasMember seen.nogoods)
   pub remembered : IsEnvironment (stock seen.slots) (mask_of st)
-  pub inside : (E : Set ℕ) → IsIn (sets w.rests.now) E → E ⊆ mask_of st
   pub one_word : CoverOneWord seen c (sets w.rests.now)
   pub as_many : length w.weights.now ≡ length w.rests.now
   pub total : w.total ≡ sum w.weights.now

@@ -1,38 +1,11 @@
-// The labels that are looked into, and what they cover.
-ghost use Rattle.std.specs.Prelude.{◌≡◌, ℕ, ◌<◌, ◌==◌, ◌||◌, ◌&&◌, not, IfOk};
-ghost use Rattle.assumption_slots.specs.Slots.{stock};
-ghost use Rattle.circuit_model.specs.Stock.{IsEnvironment, IsInLabel, within};
+// What labels cover, and what diagnoses leave.
+ghost use Rattle.std.specs.Prelude.{◌≡◌, ℕ, ◌<◌, ◌==◌, ◌||◌, ◌&&◌, not};
 ghost use Rattle.environment_sets.specs.declared.environment.TheConstants.{SLOTS};
-ghost use Rattle.environment_sets.specs.Lists.{IsListing};
-ghost use Rattle.environment_sets.specs.Members.{members, sets};
-ghost use Rattle.environment_sets.specs.Orders.{ComesBefore};
-ghost use Rattle.standing_view.specs.Standing.{order_of, mask_of};
+ghost use Rattle.environment_sets.specs.Members.{members};
 ghost use Rattle.probe_planner.specs.Covering.{covers, rest};
 
-use circuit_model::Fact;
 use environment_sets::Env;
-use label_engine::Engine;
-use standing_view::{Standing, label_after};
-use std::alloc::{AllocError, Global};
-
-/// The environments of the fact's label among what stands, in order.
-pub fn label_of(
-    alloc: Global,
-    engine: &Engine,
-    standing: &Standing,
-    fact: Fact,
-) -> Result<Vec<Env>, AllocError>
-    requires { IsEnvironment (stock engine.now.slots) (mask_of standing.now) }
-    ensures { IfOk result (λ label. IsListing (ComesBefore (order_of standing.now)) (IsInLabel (within (mask_of standing.now) (stock engine.now.slots)) fact) (sets label.items)) }
-{
-    let mut label = Vec::new(alloc);
-    let mut last = None;
-    'environments: while let Some(env) = label_after(engine, standing, fact, last.as_ref()) {
-        label.push(env)?;
-        last = Some(env);
-    }
-    Ok(label)
-}
+use standing_view::Standing;
 
 /// Whether an environment of the label is a subset.
 pub fn covers(label: &[Env], env: &Env) -> bool

@@ -6,7 +6,7 @@ ghost use Rattle.environment_sets.specs.Members.{members};
 ghost use Rattle.probe_planner.specs.Covering.{covers};
 ghost use Rattle.probe_planner.specs.Words.{CanBeScored, AreWordWeights, score_by, IsScored};
 
-use crate::labels::{covers, label_of};
+use crate::labels::covers;
 use crate::weights::{Weighed, total_of};
 use circuit_model::{Cell, Fact};
 use environment_sets::Env;
@@ -43,8 +43,8 @@ fn word_weights(
     let mut weights = Vec::new(alloc);
     let mut last = None;
     'words: while let Some(value) = value_after(engine, standing, cell, last) {
-        let label = label_of(alloc, engine, standing, Fact { cell, value })?;
-        weights.push(covered_weight(&label, weighed.rests, weighed.weights))?;
+        let label = engine.label(Fact { cell, value });
+        weights.push(covered_weight(label, weighed.rests, weighed.weights))?;
         last = Some(value);
     }
     Ok(weights)

@@ -1,8 +1,4 @@
-use Rattle.std.proofs.Common.{◌≡◌, ℕ, List, None, Some, sym, ap, subst, ◌∙◌, arith}
-use Rattle.environment_sets.specs.declared.environment.Env.{Env}
-use Rattle.environment_sets.specs.Costs.{cost_in}
-use Rattle.environment_sets.specs.Members.{members}
-use Rattle.probe_planner.specs.Covering.{covers}
+use Rattle.std.proofs.Common.{◌≡◌, ℕ, List, None, Some, sym, subst, ◌∙◌, arith}
 use Rattle.probe_planner.specs.Words.{weight_of_word}
 use Rattle.probe_planner.proofs.Weighed.{Weighs, weighs_none, weight_is, weighs_more, weighs_all}
 use Rattle.probe_planner.proofs.scores.word_weights.Goals as goal
@@ -15,9 +11,7 @@ words-preserved c =
     let seen = c.args.engine.now in
     let st = c.args.standing.now in
     let w = c.args.weighed.now in
-    let same : c.covered_weight.result ≡ weight_of_word seen w c.args.cell c.in-Some.value =
-    c.covered_weight.ensures
-    ∙ (ap (λ (es : List Env). cost_in w.rests.now w.weights.now (λ r. covers es (members r))) c.deref.ensures.value ∙ weight_is seen st w c.args.cell c.requires c.in-Some.value c.in_ok-label.label.items c.in_ok-label.ensures) in
+    let same : c.covered_weight.result ≡ weight_of_word seen w c.args.cell c.in-Some.value = c.covered_weight.ensures ∙ weight_is seen st w c.args.cell c.in-Some.value c.label-label.result.now c.label-label.ensures in
     subst (λ (ns : List ℕ). Weighs seen st w c.args.cell (Some c.in-Some.value) ns) (sym c.in_ok-push.ensures.items)
     (weighs_more seen st w c.args.cell c.words.last c.words.weights.items c.words.invariant c.in-Some.value c.covered_weight.result c.in-Some.ensures.slots same)
 
