@@ -1,8 +1,12 @@
 -- Changes of antichains.
-use Rattle.std.proofs.Common.{◌≡◌, ℕ, inl, inr, Bool, not, IsTrue, ◌↔◌, refl, sym, ap, subst, ◌∙◌, List, [], ◌∷◌, ◌++◌, length}
+use Rattle.std.proofs.Common.{◌≡◌, ℕ, ◌<◌, ◌≤◌, inl, inr, Bool, true, false, true≢false, not, cond, nat_lt, IsTrue, ◌↔◌, refl, sym, ap, subst, ◌∙◌, List, [], ◌∷◌, ◌++◌, length, get_or, position, Some, None, arith}
 use Rattle.std.proofs.lemmas.Bool.{false≢true, both_ways, not-true, not_from_false, false_from_ne_true, or_left, or_right, or_cases}
-use Rattle.std.proofs.lemmas.List.{map-append, length-map}
-use Rattle.std.specs.List.{filter, list_any}
+use Rattle.std.proofs.lemmas.List.{length-map}
+use Rattle.std.proofs.lemmas.Bool.Decides.{nat_tests}
+use Rattle.std.proofs.lemmas.List.Folds.{find_at}
+use Rattle.std.proofs.lemmas.List.Quantifiers.{position-Some}
+use Rattle.std.proofs.lemmas.Option.{slice_get_past}
+use Rattle.std.specs.List.{filter, list_any, find, position_or_len}
 use Rattle.environment_sets.specs.declared.environment.Env.{Env}
 use Rattle.environment_sets.specs.declared.environment.TheConstants.{SLOTS}
 use Rattle.environment_sets.specs.Sets.{Set, ◌⊆◌, IsBelow, is_within}
@@ -10,8 +14,8 @@ use Rattle.environment_sets.specs.Families.{IsCovered, IsAntichain, Adds, Drops,
 use Rattle.environment_sets.specs.Members.{members, sets, HasMember}
 use Rattle.environment_sets.specs.Lists.{IsIn, AreDistinct, IsRoster}
 use Rattle.environment_sets.proofs.Families.{Adds-antichain, Drops-antichain}
-use Rattle.environment_sets.proofs.Listings.{sets-push, IsIn-push, IsIn-front, IsIn-last, IsIn-filter, IsIn-kept, IsRising-filter, map-filter}
-use Rattle.environment_sets.proofs.Membership.{AreDistinct-push, IsIn-map}
+use Rattle.environment_sets.proofs.Listings.{sets-push, IsIn-push, IsIn-front, IsIn-last, IsIn-filter, IsIn-get_or, IsIn-kept, IsRising-filter, map-filter}
+use Rattle.environment_sets.proofs.Membership.{AreDistinct-push, IsIn-map, map-IsIn}
 use Rattle.environment_sets.proofs.Slots.{slots_are_below}
 use Rattle.environment_sets.proofs.Within.{within_holds, holds_within}
 
@@ -98,6 +102,39 @@ holds_covered (e ∷ es) env M (inr h) within = or_right (is_within SLOTS (membe
 
 pub covers-any : (es : List Env) (env : Env) (r : Bool) → r ≡ is_covered es env → IsTrue r ↔ IsCovered (IsIn (sets es)) (members env)
 covers-any es env r is = (λ h. covered_holds es env (sym is ∙ h), λ (M, member, within). is ∙ holds_covered es env M member within)
+
+-- the place of the first environment of the list that is a subset of this one
+module _ (env : Env) where
+  abbrev is_inside : Env → Bool
+  is_inside e = is_within SLOTS (members e) (members env)
+
+  none_inside : (es : List Env) → find is_inside es ≡ None → IsCovered (IsIn (sets es)) (members env) → ⊥
+  none_inside [] none (E, member, within) = member
+  none_inside (e ∷ es) none (E, member, within) =
+      elim (is_inside e) as (λ b. is_inside e ≡ b → ⊥) [
+        | true ↦ λ is. let found : find is_inside (e ∷ es) ≡ Some e = rw is refl in let bad : Some e ≡ None = sym found ∙ none in cc
+        | false ↦ λ out. elim member [
+          | inl same ↦ let inside : members e ⊆ members env = let P : Set ℕ → Type 0 = λ F. F ⊆ members env in subst P (sym same) within in
+              true≢false (sym (holds_within SLOTS (members e) (members env) inside) ∙ out)
+          | inr later ↦ none_inside es (let g : find is_inside (e ∷ es) ≡ find is_inside es = rw out refl in sym g ∙ none) (E, later, within)
+        ]
+      ] refl
+
+  pub covered_at : (es : List Env) (i : ℕ) → i < length es → IsTrue (is_inside (get_or es i env)) → IsCovered (IsIn (sets es)) (members env)
+  covered_at es i low is = (members (get_or es i env), map-IsIn members es (get_or es i env) (IsIn-get_or es i env low), within_holds SLOTS (members (get_or es i env)) (members env) (slots_are_below (get_or es i env)) is)
+
+  pub covered_from : (es : List Env) (i : ℕ) → Some i ≡ position is_inside es → IsCovered (IsIn (sets es)) (members env)
+  covered_from es i is =
+      let at : (i < length es) × (is_inside (get_or es i env) ≡ true) × ((k : ℕ) → k < i → is_inside (get_or es k env) ≡ false) = position-Some is_inside es i env (sym is) in
+      covered_at es i at.0 at.1
+
+  pub not_covered_from : (es : List Env) → None ≡ position is_inside es → IsCovered (IsIn (sets es)) (members env) → ⊥
+  not_covered_from es is =
+      let place = position_or_len is_inside es in
+      elim (nat_lt place (length es)) as (λ b. nat_lt place (length es) ≡ b → None ≡ cond b (Some place) None → IsCovered (IsIn (sets es)) (members env) → ⊥) [
+        | true ↦ λ _ h. absurd (let bad : None ≡ Some place = h in cc)
+        | false ↦ λ high _. let past : length es ≤ place = grind (arith, nat_tests) in none_inside es (find_at is_inside es ∙ slice_get_past es place past)
+      ] refl is
 
 -- the sets of the list that are inside the mask
 pub roster-left : (es left : List Env) (mask : Set ℕ) → left ≡ filter (λ e. is_within SLOTS (members e) mask) es → AreDistinct (sets es) → IsRoster (λ E. HasMember es E × (E ⊆ mask)) (sets left)

@@ -1,7 +1,7 @@
 // Sets of environments, none of which contains another.
-ghost use Rattle.std.specs.Prelude.{◌≡◌, ◌<◌, ◌↔◌, IsTrue, OnErr, IfOk, IfSome, Some, Ok, []};
+ghost use Rattle.std.specs.Prelude.{◌≡◌, ◌<◌, ◌↔◌, IsTrue, OnErr, IfOk, IfSome, Some, Ok, [], position};
 ghost use Rattle.std.specs.Option.{ForSome, option_map, option_copied};
-ghost use Rattle.environment_sets.specs.Sets.{◌⊆◌};
+ghost use Rattle.environment_sets.specs.Sets.{◌⊆◌, is_within};
 ghost use Rattle.environment_sets.specs.Lists.{IsRoster};
 ghost use Rattle.environment_sets.specs.Members.{members, sets, HasMember};
 ghost use Rattle.environment_sets.specs.Families.{IsCovered, IsAntichain, Adds, Drops, AreInside};
@@ -108,6 +108,23 @@ impl Antichain {
         self.list.iter().any(|member| member.is_subset(env))
     }
 
+    /// Whether a member is a subset of the environment. The member at the place is tried first, and where another one is
+    /// found, the place becomes its: of environments that are much alike, one member often covers the next one too.
+    pub fn covers_from(&self, env: &Env, place: &mut usize) -> bool
+        ensures { IsTrue result ↔ IsCovered (HasMember self.now) (members env.now) }
+    {
+        if is_subset_at(&self.list, *place, env) {
+            return true;
+        }
+        match place_of_subset(&self.list, env) {
+            Some(found) => {
+                *place = found;
+                true
+            }
+            None => false,
+        }
+    }
+
     /// Drops the members that have the slot, which is below [`SLOTS`]. It takes no memory.
     pub fn drop_slot(&mut self, slot: u16)
         requires { slot < SLOTS }
@@ -142,6 +159,23 @@ impl Antichain {
             }
         }
         next
+    }
+}
+
+// The place of the first that is a subset of the environment.
+fn place_of_subset(list: &[Env], env: &Env) -> Option<usize>
+    ensures { result ≡ position (λ e. is_within SLOTS (members e) (members env.now)) list.now }
+{
+    list.iter().position(|member| member.is_subset(env))
+}
+
+// Whether there is a member at the place, and it is a subset of the environment.
+fn is_subset_at(list: &[Env], place: usize, env: &Env) -> bool
+    ensures { IsTrue result → IsCovered (HasMember list.now) (members env.now) }
+{
+    match list.get(place) {
+        Some(member) => member.is_subset(env),
+        None => false,
     }
 }
 

@@ -70,6 +70,14 @@ impl Label {
         self.antichain.covers(env)
     }
 
+    /// Whether a member is a subset of the environment. The member at the place is tried first, and where another one is
+    /// found, the place becomes its: of environments that are much alike, one member often covers the next one too.
+    pub fn covers_from(&self, env: &Env, place: &mut usize) -> bool
+        ensures { IsTrue result ↔ IsCovered (HasMember self.now) (members env.now) }
+    {
+        self.antichain.covers_from(env, place)
+    }
+
     /// Drops the members that have the slot, which is below [`SLOTS`]. It takes no memory.
     pub fn drop_slot(&mut self, slot: u16)
         requires { slot < SLOTS }

@@ -31,7 +31,7 @@ IfOk-map (Ok x) f h = f x h
 IfOk-map (Err e) f h = h
 
 -- the unions with the other_fact's label are all unions
-pub unions_with_other : (item : Pending) (labels : Nodes) (g : Fact) (old new : List Insertion) → other_fact item.inferred item.at ≡ Some g → HasUnionsWith item (label_in labels.list.items g) old new → HasUnions item labels old new
+pub unions_with_other : (item : Pending) (labels : Nodes) (g : Fact) (old new : List Insertion) → other_fact item.inferred item.at ≡ Some g → HasUnionsWith item labels (label_in labels.list.items g) old new → HasUnions item labels old new
 unions_with_other item labels g old new p u = record {
   stays = u.stays;
   alone = λ e. absurd (let bad : Some g ≡ None = sym p ∙ e in cc);

@@ -11,7 +11,7 @@ use Rattle.environment_sets.specs.Sets.{Set, ◌∪◌, no_elements, only}
 use Rattle.environment_sets.specs.Members.{members, HasMember}
 use Rattle.environment_sets.specs.Lists.{IsIn, AreDistinct}
 use Rattle.environment_sets.specs.Families.{Drops}
-use Rattle.propagation.specs.Propagating.{Target, Family, RecordedInference, All, AreRecorded, IsPropagating, AgreeWithout, IsPut}
+use Rattle.propagation.specs.Propagating.{Target, Family, RecordedInference, All, AreRecorded, IsPropagating, IsReached, AgreeWithout, IsPut}
 use Rattle.propagation.specs.Uncovered.{uncovered}
 use Rattle.label_engine.specs.declared.nodes.Node.{Node}
 use Rattle.label_engine.specs.declared.nodes.Nodes.{Nodes}
@@ -103,23 +103,44 @@ abbrev pub made_by : Option ℕ → Set ℕ
 made_by None = no_elements
 made_by (Some k) = only k
 
--- what is due is the union of the item's environment, a set of the other fact and the maker, at what the inference leads to
+-- the item's environment, its maker and another set together
+abbrev pub union_of : Pending → Set ℕ → Set ℕ
+union_of item E = (members item.env ∪ made_by item.inferred.maker) ∪ E
+
+-- what is due is the item's union with a set, at what the inference leads to
 pub record IsUnion (item : Pending) (E : Set ℕ) (d : Insertion) : Type 0 where
   pub target : d.target ≡ item.inferred.to
-  pub joined : members d.env ≡ (members item.env ∪ E) ∪ made_by item.inferred.maker
+  pub joined : members d.env ≡ union_of item E
 
--- what was due still is, and besides exactly a union for each environment of the label
-pub record HasUnionsWith (item : Pending) (label : List Env) (old new : List Insertion) : Type 0 where
+-- what all unions of the item have, at what the inference leads to
+pub record BeginsUnions (item : Pending) (d : Insertion) : Type 0 where
+  pub target : d.target ≡ item.inferred.to
+  pub joined : members d.env ≡ members item.env ∪ made_by item.inferred.maker
+
+-- the item's union with the set is due, or reached already
+abbrev pub IsDueOrReached : Pending → Nodes → List Insertion → Set ℕ → Type 0
+IsDueOrReached item nodes due E = ((d : Insertion) × IsIn due d × IsUnion item E d) ⊎ IsReached (KeptIn nodes) item.inferred.to (union_of item E)
+
+-- each of the environments is kept at the target
+abbrev pub AreKeptAt : Nodes → Target → List Env → Type 0
+AreKeptAt nodes t envs = (E : Set ℕ) → HasMember envs E → KeptIn nodes t E
+
+-- it is due too, or it is reached and what is due stays
+abbrev pub IsAddedOrReached : Nodes → Insertion → List Insertion → List Insertion → Type 0
+IsAddedOrReached nodes d old new = (new ≡ old ++ d ∷ []) ⊎ ((new ≡ old) × IsReached (KeptIn nodes) d.target (members d.env))
+
+-- what was due still is; a union for each environment of the label is due too, or reached; and nothing else is due
+pub record HasUnionsWith (item : Pending) (nodes : Nodes) (label : List Env) (old new : List Insertion) : Type 0 where
   pub stays : (d : Insertion) → IsIn old d → IsIn new d
-  pub each : (E : Set ℕ) → HasMember label E → (d : Insertion) × IsIn new d × IsUnion item E d
+  pub each : (E : Set ℕ) → HasMember label E → IsDueOrReached item nodes new E
   pub only : (d : Insertion) → IsIn new d → IsIn old d ⊎ ((E : Set ℕ) × HasMember label E × IsUnion item E d)
 
--- what was due still is, and besides exactly the item's unions: with nothing where there is no other fact, and else with each
--- environment of the other fact's label
+-- what was due still is, and the item's unions, with nothing where there is no other fact, and else with each environment of the
+-- other fact's label, are due too, or reached; and nothing else is due
 pub record HasUnions (item : Pending) (nodes : Nodes) (old new : List Insertion) : Type 0 where
   pub stays : (d : Insertion) → IsIn old d → IsIn new d
   pub alone : other_fact item.inferred item.at ≡ None → (d : Insertion) × IsIn new d × IsUnion item no_elements d
-  pub each : (g : Fact) (E : Set ℕ) → other_fact item.inferred item.at ≡ Some g → KeptIn nodes (Some g) E → (d : Insertion) × IsIn new d × IsUnion item E d
+  pub each : (g : Fact) (E : Set ℕ) → other_fact item.inferred item.at ≡ Some g → KeptIn nodes (Some g) E → IsDueOrReached item nodes new E
   pub only :
       (d : Insertion) → IsIn new d
       → IsIn old d ⊎ (((other_fact item.inferred item.at ≡ None) × IsUnion item no_elements d) ⊎ ((g : Fact) × (E : Set ℕ) × (other_fact item.inferred item.at ≡ Some g) × KeptIn nodes (Some g) E × IsUnion item E d))
