@@ -12,10 +12,11 @@ ghost use Rattle.circuit_model.specs.declared.model.Assumption.TheVariants.{Part
 ghost use Rattle.propagation.specs.Uncovered.{Fits, TargetFits};
 ghost use Rattle.propagation.specs.Propagating.{IsReached};
 ghost use Rattle.label_engine.specs.Nodes.{facts_of, KeptIn, IsMet, EachDrops};
-ghost use Rattle.label_engine.specs.Update.{is_same_target, goes_from, item_at, some_fact, goes_from_none, due_with, items_with, items_from, other_fact, made_by, HasUnions, HasUnionsWith, HasMet, AreKeptAlike, IsPutThere, Propagates, DueAlso, WaitsAlso, CarriesOn, IsReady, BeginsUnions, AreKeptAt, IsAddedOrReached, Survives, before, IsAtRest, IsTakenBack, is_made_at, is_met_or_none, is_still_met, HasForgotten};
+ghost use Rattle.label_engine.specs.Update.{goes_from, item_at, some_fact, goes_from_none, due_with, items_with, items_from, other_fact, made_by, HasUnions, HasUnionsWith, HasMet, AreKeptAlike, IsPutThere, Propagates, DueAlso, WaitsAlso, CarriesOn, IsReady, BeginsUnions, AreKeptAt, IsAddedOrReached, Survives, before, IsAtRest, IsTakenBack, is_made_at, is_met_or_none, is_still_met, HasForgotten};
 ghost use Rattle.assumption_slots.specs.Slots.{stock};
 
-use crate::nodes::{Insertion, Nodes, is_same_fact};
+use crate::nodes::{Insertion, Nodes};
+use crate::recording::{is_target, needed_of, record_all, uses};
 use assumption_slots::Slots;
 use circuit_model::{Assumption, Fact};
 use environment_sets::Env;
@@ -50,24 +51,6 @@ struct LastCovers {
     nogood: usize,
 }
 
-// Whether the two are the same target.
-fn is_target(a: &Option<Fact>, b: &Option<Fact>) -> bool
-    ensures { result ≡ is_same_target a.now b.now }
-{
-    match (a, b) {
-        (None, None) => true,
-        (Some(x), Some(y)) => is_same_fact(x, y),
-        _ => false,
-    }
-}
-
-// Whether the fact is one that the inference goes from.
-fn uses(inferred: &Inferred, fact: &Fact) -> bool
-    ensures { result ≡ goes_from fact.now inferred.now }
-{
-    is_target(&inferred.first, &Some(*fact)) || is_target(&inferred.second, &Some(*fact))
-}
-
 // Each of the inferences that goes from the fact waits, with the environment.
 fn wait_at_uses(
     agenda: &mut Agenda<Pending>,
@@ -85,17 +68,6 @@ fn wait_at_uses(
                 env: *env,
             })?;
         }
-    }
-    Ok(())
-}
-
-// After an error a front of what was found is recorded.
-fn record_all(recorded: &mut Vec<Inferred>, found: &[Inferred]) -> Result<(), AllocError>
-    ensures ok { IfOk result (λ _. recorded.new.items ≡ recorded.old.items ++ found.now) }
-    ensures partly { (k : ℕ) × (recorded.new.items ≡ recorded.old.items ++ take k found.now) }
-{
-    for inferred in found {
-        recorded.push(*inferred)?;
     }
     Ok(())
 }
@@ -371,7 +343,7 @@ fn drop_stale(recorded: &mut Vec<Inferred>, nodes: &Nodes, slot: u16)
 }
 
 impl Update {
-    // The fact is met, which it was not: the inferences that use it are recorded.
+    // The fact is met, which it was not: of the inferences that use it, those that are needed are recorded.
     fn meet(&mut self, alloc: Global, slots: &Slots, fact: &Fact) -> Result<(), AllocError>
         requires { IsMet self.old.nodes.list.items fact.now → ⊥ }
         ensures ok { IfOk result (λ _. HasMet slots.now fact.now self.old self.new) }
@@ -380,7 +352,8 @@ impl Update {
     {
         let met = self.nodes.met(alloc)?;
         let found = find_uses(alloc, slots, &met, *fact)?;
-        record_all(&mut self.recorded, &found)?;
+        let needed = needed_of(alloc, &self.recorded, &found)?;
+        record_all(&mut self.recorded, &needed)?;
         self.nodes.meet(alloc, fact)
     }
 
@@ -499,8 +472,8 @@ impl Update {
         Ok(())
     }
 
-    // A component begins: its inferences are recorded. What they lead to from no fact is due, and the others wait at each
-    // environment of one of their facts.
+    // A component begins: of its inferences, those that are needed are recorded. What they lead to from no fact is due, and
+    // the others wait at each environment of one of their facts.
     fn begin_part(&mut self, alloc: Global, slots: &Slots) -> Result<(), AllocError>
         requires below { self.old.slot < SLOTS }
         requires works { (part : List Instance) × (stock slots.now self.old.slot ≡ Some (Part part)) }
@@ -510,10 +483,11 @@ impl Update {
     {
         let met = self.nodes.met(alloc)?;
         let found = find_made_by(alloc, slots, &met, self.slot)?;
-        record_all(&mut self.recorded, &found)?;
+        let needed = needed_of(alloc, &self.recorded, &found)?;
+        record_all(&mut self.recorded, &needed)?;
         let env = made_by(Some(self.slot));
-        due_from_none(&mut self.due, &found, &env)?;
-        wait_at_each(&mut self.agenda, &self.nodes, &found)
+        due_from_none(&mut self.due, &needed, &env)?;
+        wait_at_each(&mut self.agenda, &self.nodes, &needed)
     }
 
     // The assumption at the slot begins.
