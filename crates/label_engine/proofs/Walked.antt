@@ -1,15 +1,16 @@
 -- The unions with each environment of the other_fact's label, one after another.
 use Rattle.std.proofs.Common.{◌≡◌, ℕ, ◌⊎◌, inl, inr, refl, sym, ap, subst, ◌∙◌, List, [], ◌∷◌, ◌++◌}
+use Rattle.std.proofs.lemmas.Bool.{or_left}
 use Rattle.environment_sets.proofs.Membership.{IsIn-append, IsIn-left, IsIn-right}
 use Rattle.environment_sets.specs.declared.environment.Env.{Env}
-use Rattle.environment_sets.specs.Sets.{Set, ◌∪◌}
+use Rattle.environment_sets.specs.Sets.{Set, ◌∪◌, ◌⊆◌}
 use Rattle.environment_sets.specs.Members.{members, HasMember}
 use Rattle.label_engine.specs.declared.nodes.Insertion.{Insertion}
 use Rattle.label_engine.specs.declared.update.Pending.{Pending}
 use Rattle.propagation.specs.Propagating.{Target, IsReached}
 use Rattle.label_engine.specs.declared.nodes.Nodes.{Nodes}
 use Rattle.label_engine.specs.Nodes.{KeptIn}
-use Rattle.label_engine.specs.Update.{union_of, IsUnion, BeginsUnions, IsAddedOrReached, HasUnionsWith}
+use Rattle.label_engine.specs.Update.{made_by, union_of, IsUnion, BeginsUnions, IsAddedOrReached, HasUnionsWith}
 
 member_front : (xs ys : List Env) (E : Set ℕ) → HasMember xs E → HasMember (xs ++ ys) E
 member_front [] ys E h = absurd h
@@ -67,4 +68,15 @@ pub union_from : (item : Pending) (begun d : Insertion) (E : Set ℕ) → Begins
 union_from item begun d E begins target joined = record {
   target = target ∙ begins.target;
   joined = joined ∙ ap (λ (F : Set ℕ). F ∪ E) begins.joined;
+}
+
+-- where what all unions have is reached, each of them is
+pub all_reached : (item : Pending) (nodes : Nodes) (envs : List Env) (old : List Insertion) (begun : Insertion) → BeginsUnions item begun → IsReached (KeptIn nodes) begun.target (members begun.env) → HasUnionsWith item nodes envs old old
+all_reached item nodes envs old begun begins reached = record {
+  stays = λ d i. i;
+  each = λ E h. inr (
+      let P : Target → Type 0 = λ t. IsReached (KeptIn nodes) t (members begun.env) in
+      let within : members begun.env ⊆ union_of item E = λ k in_begun. or_left ((members item.env ∪ made_by item.inferred.maker) k) (E k) (sym (ap (λ (F : Set ℕ). F k) begins.joined) ∙ in_begun) in
+      elim (subst P begins.target reached) [ inl c ↦ inl (c.0, c.1, λ k i. within k (c.2 k i)) | inr c ↦ inr (c.0, c.1, λ k i. within k (c.2 k i)) ]);
+  only = λ d i. inl i;
 }

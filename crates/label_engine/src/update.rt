@@ -228,7 +228,7 @@ fn label_at<'a>(nodes: &'a Nodes, target: &Option<Fact>) -> Option<&'a Label>
     }
 }
 
-// Whether a nogood, or an environment of the target's label, is a subset of the union. Those that were found for the last
+// Whether an environment of the target's label, or a nogood, is a subset of the union. Those that were found for the last
 // union are tried first.
 fn is_covered(
     nodes: &Nodes,
@@ -239,13 +239,12 @@ fn is_covered(
     requires { ForSome label (λ l. AreKeptAt nodes.now union.now.target l.now) }
     ensures { IsTrue result → IsReached (KeptIn nodes.now) union.now.target (members union.now.env) }
 {
-    if nodes.nogoods.covers_from(&union.env, &mut last.nogood) {
-        return true;
+    if let Some(label) = label {
+        if label.covers_from(&union.env, &mut last.member) {
+            return true;
+        }
     }
-    match label {
-        Some(label) => label.covers_from(&union.env, &mut last.member),
-        None => false,
-    }
+    nodes.nogoods.covers_from(&union.env, &mut last.nogood)
 }
 
 // The union is due, where it is not reached.
@@ -266,7 +265,8 @@ fn add_union(
     Ok(())
 }
 
-// The unions with each environment of the other fact's label are due, where they are not reached.
+// The unions with each environment of the other fact's label are due, where they are not reached. Where what they all have
+// is reached, so is each of them: as where the fact was inferred by this very component from what it leads back to.
 fn add_unions_with(
     due: &mut Vec<Insertion>,
     nodes: &Nodes,
@@ -282,6 +282,9 @@ fn add_unions_with(
         member: 0,
         nogood: 0,
     };
+    if is_covered(nodes, target, &begun, &mut last) {
+        return Ok(());
+    }
     for env in label.members() {
         let union = union_with(&begun, *env);
         add_union(due, nodes, target, union, &mut last)?;

@@ -3,7 +3,7 @@ use Rattle.std.proofs.lemmas.List.{take_more, take_all}
 use Rattle.environment_sets.specs.declared.environment.Env.{Env}
 use Rattle.environment_sets.specs.Members.{members}
 use Rattle.label_engine.specs.Update.{IsUnion, HasUnionsWith}
-use Rattle.label_engine.proofs.Walked.{none_yet, one_more, union_from}
+use Rattle.label_engine.proofs.Walked.{none_yet, one_more, union_from, all_reached}
 use Rattle.label_engine.proofs.update.add_unions_with.Goals as goal
 
 pub loop-env-init : goal.loop-env-init
@@ -25,3 +25,7 @@ returns c =
     let whole : take c.loop-env.env-index c.args.label.now ≡ c.args.label.now = take_all c.loop-env.env-index c.args.label.now (rw (← c.members-env-items.ensures) c.loop-env-test.false) in
     let P : List Env → Type 0 = λ l. HasUnionsWith c.args.item.now c.args.nodes.now l c.args.due.now.items c.loop-env.due.items in
     subst P whole c.loop-env.invariant
+
+pub returns-then-is_covered : goal.returns-then-is_covered
+returns-then-is_covered c =
+    all_reached c.args.item.now c.args.nodes.now c.args.label.now c.args.due.now.items c.begun_union-begun.result c.begun_union-begun.ensures (c.is_covered.ensures c.if-is_covered.true)
