@@ -1,5 +1,5 @@
 // Labels of facts.
-ghost use Rattle.std.specs.Prelude.{◌≡◌, ◌<◌, ◌↔◌, IsTrue, OnErr, IfSome, Some, Ok, []};
+ghost use Rattle.std.specs.Prelude.{◌≡◌, ◌<◌, ◌↔◌, IsTrue, OnOk, OnErr, IfSome, Some, Ok, []};
 ghost use Rattle.std.specs.Option.{ForSome, option_copied};
 ghost use Rattle.environment_sets.specs.Sets.{◌⊆◌};
 ghost use Rattle.environment_sets.specs.Members.{members, HasMember};
@@ -47,6 +47,17 @@ impl Label {
         ensures antichain { IsAntichain (HasMember self.new) }
     {
         self.antichain.insert(env)
+    }
+
+    /// Puts in an environment that no member is a subset of, and drops the members that contain it. After an error the
+    /// members are as before.
+    pub fn add(&mut self, env: Env) -> Result<(), AllocError>
+        requires { IsCovered (HasMember self.old) (members env) → ⊥ }
+        ensures added { OnOk result (Adds (HasMember self.old) (HasMember self.new) (members env)) }
+        ensures err { OnErr result (self.new ≡ self.old) }
+        ensures antichain { IsAntichain (HasMember self.new) }
+    {
+        self.antichain.add(env)
     }
 
     /// How many environments of the label are inside the mask.

@@ -1,5 +1,5 @@
 // Nogoods.
-ghost use Rattle.std.specs.Prelude.{◌≡◌, ◌<◌, ◌↔◌, IsTrue, OnErr, IfOk, IfSome, Some, Ok, []};
+ghost use Rattle.std.specs.Prelude.{◌≡◌, ◌<◌, ◌↔◌, IsTrue, OnOk, OnErr, IfOk, IfSome, Some, Ok, []};
 ghost use Rattle.std.specs.Option.{ForSome, option_copied};
 ghost use Rattle.environment_sets.specs.Lists.{IsRoster};
 ghost use Rattle.environment_sets.specs.Members.{members, sets, HasMember};
@@ -49,6 +49,17 @@ impl Nogoods {
         ensures antichain { IsAntichain (HasMember self.new) }
     {
         self.antichain.insert(env)
+    }
+
+    /// Puts in an environment that no member is a subset of, and drops the members that contain it. After an error the
+    /// members are as before.
+    pub fn add(&mut self, env: Env) -> Result<(), AllocError>
+        requires { IsCovered (HasMember self.old) (members env) → ⊥ }
+        ensures added { OnOk result (Adds (HasMember self.old) (HasMember self.new) (members env)) }
+        ensures err { OnErr result (self.new ≡ self.old) }
+        ensures antichain { IsAntichain (HasMember self.new) }
+    {
+        self.antichain.add(env)
     }
 
     /// How many nogoods are inside the mask.
