@@ -1,7 +1,7 @@
 // Sets of environments, none of which contains another.
-ghost use Rattle.std.specs.Prelude.{◌≡◌, ◌<◌, ◌↔◌, IsTrue, OnOk, OnErr, IfOk, IfSome, MatchBool, Some, Ok, [], position};
+ghost use Rattle.std.specs.Prelude.{◌≡◌, ◌<◌, ◌↔◌, IsTrue, OnOk, OnErr, IfOk, IfSome, MatchBool, MatchOption, Some, Ok, []};
 ghost use Rattle.std.specs.Option.{ForSome, option_map, option_copied};
-ghost use Rattle.environment_sets.specs.Sets.{◌⊆◌, is_within};
+ghost use Rattle.environment_sets.specs.Sets.{◌⊆◌};
 ghost use Rattle.environment_sets.specs.Lists.{IsRoster};
 ghost use Rattle.environment_sets.specs.Members.{members, sets, HasMember};
 ghost use Rattle.environment_sets.specs.Families.{IsCovered, IsAntichain, Adds, Drops, AreInside};
@@ -126,7 +126,7 @@ impl Antichain {
     pub fn covers(&self, env: &Env) -> bool
         ensures { IsTrue result ↔ IsCovered (HasMember self.now) (members env.now) }
     {
-        self.list.iter().any(|member| member.is_subset(env))
+        place_of_subset(&self.list, env).is_some()
     }
 
     /// Whether a member is a subset of the environment. The member at the place is tried first, and where another one is
@@ -183,11 +183,16 @@ impl Antichain {
     }
 }
 
-// The place of the first that is a subset of the environment.
+// The place of one that is a subset of the environment. They are tried from the last, as what was put in lately covers most.
 fn place_of_subset(list: &[Env], env: &Env) -> Option<usize>
-    ensures { result ≡ position (λ e. is_within SLOTS (members e) (members env.now)) list.now }
+    ensures { MatchOption result (IsCovered (HasMember list.now) (members env.now) → ⊥) (λ _. IsCovered (HasMember list.now) (members env.now)) }
 {
-    list.iter().position(|member| member.is_subset(env))
+    for place in (0..list.len()).rev() {
+        if list[place].is_subset(env) {
+            return Some(place);
+        }
+    }
+    None
 }
 
 // Whether there is a member at the place, and it is a subset of the environment.
