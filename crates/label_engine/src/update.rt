@@ -1,10 +1,10 @@
 // Bringing labels up to date with one assumption more: what follows is inferred until nothing waits.
 
 ghost use Rattle.std.specs.Prelude.{IsTrue, ◌≡◌, ℕ, ◌^◌, ◌<◌, ◌++◌, ◌∷◌, [], List, filter, length, IfOk, IfErr, IfSome, IsSome, Some, map, take};
+ghost use Rattle.std.specs.Option.{ForSome};
 ghost use Rattle.environment_sets.specs.declared.environment.TheConstants.{SLOTS};
 ghost use Rattle.environment_sets.specs.Members.{members, HasMember};
 ghost use Rattle.environment_sets.specs.Sets.{◌∪◌};
-ghost use Rattle.std.specs.Option.{ForSome};
 ghost use Rattle.environment_sets.specs.Lists.{AreDistinct};
 ghost use Rattle.environment_sets.specs.Families.{Drops};
 ghost use Rattle.circuit_model.specs.declared.model.Instance.{Instance};
@@ -229,7 +229,7 @@ fn label_at<'a>(nodes: &'a Nodes, target: &Option<Fact>) -> Option<&'a Label>
 }
 
 // Whether an environment of the target's label, or a nogood, is a subset of the union. Those that were found for the last
-// union are tried first.
+// union are tried first, and the nogoods, which are few, before the label.
 fn is_covered(
     nodes: &Nodes,
     label: Option<&Label>,
@@ -240,11 +240,17 @@ fn is_covered(
     ensures { IsTrue result → IsReached (KeptIn nodes.now) union.now.target (members union.now.env) }
 {
     if let Some(label) = label {
-        if label.covers_from(&union.env, &mut last.member) {
+        if label.covers_at(&union.env, last.member) {
             return true;
         }
     }
-    nodes.nogoods.covers_from(&union.env, &mut last.nogood)
+    if nodes.nogoods.covers_from(&union.env, &mut last.nogood) {
+        return true;
+    }
+    match label {
+        Some(label) => label.covers_from(&union.env, &mut last.member),
+        None => false,
+    }
 }
 
 // The union is due, where it is not reached.
