@@ -271,8 +271,9 @@ fn add_union(
     Ok(())
 }
 
-// The unions with each environment of the other fact's label are due, where they are not reached. Where what they all have
-// is reached, so is each of them: as where the fact was inferred by this very component from what it leads back to.
+// The unions with each environment of the other fact's label are due, where they are not reached. Where an environment of
+// the target's label lies in what they all have, each of them is reached: as where the fact was inferred by this very
+// component from what it leads back to.
 fn add_unions_with(
     due: &mut Vec<Insertion>,
     nodes: &Nodes,
@@ -288,8 +289,10 @@ fn add_unions_with(
         member: 0,
         nogood: 0,
     };
-    if is_covered(nodes, target, &begun, &mut last) {
-        return Ok(());
+    if let Some(kept) = target {
+        if kept.covers_from(&begun.env, &mut last.member) {
+            return Ok(());
+        }
     }
     for env in label.members() {
         let union = union_with(&begun, *env);

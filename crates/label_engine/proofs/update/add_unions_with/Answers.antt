@@ -1,7 +1,8 @@
-use Rattle.std.proofs.Common.{◌≡◌, ◌+◌, ◌<◌, ℕ, List, [], ◌∷◌, ◌++◌, get_or, take, sym, ap, subst, ◌∙◌, length}
+use Rattle.std.proofs.Common.{inl, ◌≡◌, ◌+◌, ◌<◌, ℕ, List, [], ◌∷◌, ◌++◌, get_or, take, sym, ap, subst, ◌∙◌, length}
 use Rattle.std.proofs.lemmas.List.{take_more, take_all}
 use Rattle.environment_sets.specs.declared.environment.Env.{Env}
-use Rattle.environment_sets.specs.Members.{members}
+use Rattle.environment_sets.specs.Members.{members, HasMember}
+use Rattle.environment_sets.specs.Families.{IsCovered}
 use Rattle.label_engine.specs.Update.{IsUnion, HasUnionsWith}
 use Rattle.label_engine.proofs.Walked.{none_yet, one_more, union_from, all_reached}
 use Rattle.label_engine.proofs.update.add_unions_with.Goals as goal
@@ -26,6 +27,7 @@ returns c =
     let P : List Env → Type 0 = λ l. HasUnionsWith c.args.item.now c.args.nodes.now l c.args.due.now.items c.loop-env.due.items in
     subst P whole c.loop-env.invariant
 
-pub returns-then-is_covered : goal.returns-then-is_covered
-returns-then-is_covered c =
-    all_reached c.args.item.now c.args.nodes.now c.args.label.now c.args.due.now.items c.begun_union-begun.result c.begun_union-begun.ensures (c.is_covered.ensures c.if-is_covered.true)
+pub returns-then-covers_from : goal.returns-then-covers_from
+returns-then-covers_from c =
+    let cover : IsCovered (HasMember c.in-Some.kept.now) (members c.begun_union-begun.result.env) = c.covers_from.ensures.0 c.if-covers_from.true in
+    all_reached c.args.item.now c.args.nodes.now c.args.label.now c.args.due.now.items c.begun_union-begun.result c.begun_union-begun.ensures (inl (cover.0, c.in-Some.ensures cover.0 cover.1, cover.2))
