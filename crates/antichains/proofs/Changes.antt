@@ -1,8 +1,10 @@
 -- Changes of antichains.
-use Rattle.std.proofs.Common.{◌≡◌, ℕ, inl, inr, Bool, not, IsTrue, ◌↔◌, refl, sym, ap, subst, ◌∙◌, List, [], ◌∷◌, ◌++◌, length}
-use Rattle.std.proofs.lemmas.Bool.{false≢true, both_ways, not-true, not_from_false, false_from_ne_true, or_left, or_right, or_cases}
-use Rattle.std.proofs.lemmas.List.{map-append, length-map}
-use Rattle.std.specs.List.{filter, list_any}
+use Rattle.std.proofs.Common.{◌≡◌, ℕ, ◌-◌, ◌<◌, ◌≤◌, inl, inr, Bool, true, false, not, nat_lt, IsTrue, ◌↔◌, refl, sym, ap, subst, ◌∙◌, List, [], ◌∷◌, ◌++◌, length, get_or, Option, Some, None, MatchOption, is_some, arith}
+use Rattle.std.proofs.lemmas.Bool.{false≢true, both_ways, not-true, not_from_false, false_from_ne_true}
+use Rattle.std.proofs.lemmas.List.{length-map}
+use Rattle.std.proofs.lemmas.Bool.Decides.{nat_tests}
+use Rattle.std.proofs.lemmas.Option.{slice_get_within, slice_get-get_or}
+use Rattle.std.specs.List.{filter, slice_get}
 use Rattle.environment_sets.specs.declared.environment.Env.{Env}
 use Rattle.environment_sets.specs.declared.environment.TheConstants.{SLOTS}
 use Rattle.environment_sets.specs.Sets.{Set, ◌⊆◌, IsBelow, is_within}
@@ -10,8 +12,8 @@ use Rattle.environment_sets.specs.Families.{IsCovered, IsAntichain, Adds, Drops,
 use Rattle.environment_sets.specs.Members.{members, sets, HasMember}
 use Rattle.environment_sets.specs.Lists.{IsIn, AreDistinct, IsRoster}
 use Rattle.environment_sets.proofs.Families.{Adds-antichain, Drops-antichain}
-use Rattle.environment_sets.proofs.Listings.{sets-push, IsIn-push, IsIn-front, IsIn-last, IsIn-filter, IsIn-kept, IsRising-filter, map-filter}
-use Rattle.environment_sets.proofs.Membership.{AreDistinct-push, IsIn-map}
+use Rattle.environment_sets.proofs.Listings.{sets-push, IsIn-push, IsIn-front, IsIn-last, IsIn-filter, IsIn-get_or, IsIn-kept, IsRising-filter, map-filter}
+use Rattle.environment_sets.proofs.Membership.{AreDistinct-push, IsIn-map, map-IsIn, slice_get-IsIn}
 use Rattle.environment_sets.proofs.Slots.{slots_are_below}
 use Rattle.environment_sets.proofs.Within.{within_holds, holds_within}
 
@@ -77,27 +79,43 @@ antichain-added e old left new is pushed uncovered (distinct, antichain) =
       Adds-antichain (HasMember old) (HasMember new) (members e) (adds-left e old left new is pushed) uncovered antichain,
     )
 
--- some environment of the list is a subset of this one
-abbrev pub is_covered : List Env → Env → Bool
-is_covered es env = list_any (λ (e : Env). is_within SLOTS (members e) (members env)) es
+-- the place of an environment of the list that is a subset of this one
+module _ (env : Env) where
+  -- from the place on, none is a subset
+  abbrev pub NoneFrom : List Env → ℕ → Type 0
+  NoneFrom es i = (k : ℕ) (e : Env) → i ≤ k → slice_get es k ≡ Some e → members e ⊆ members env → ⊥
 
-covered_holds : (es : List Env) (env : Env) → IsTrue (is_covered es env) → IsCovered (IsIn (sets es)) (members env)
-covered_holds [] env h = absurd (false≢true h)
-covered_holds (e ∷ es) env h =
-    elim (or_cases (is_within SLOTS (members e) (members env)) (is_covered es env) h) [
-      | inl is ↦ (members e, inl refl, within_holds SLOTS (members e) (members env) (slots_are_below e) is)
-      | inr later ↦ let found : IsCovered (IsIn (sets es)) (members env) = covered_holds es env later in (found.0, inr found.1, found.2)
-    ]
+  pub none_from_end : (es : List Env) → NoneFrom es (length es)
+  none_from_end es k e past at within = let low : k < length es = slice_get_within es k e at in absurd (omega arith)
 
-holds_covered : (es : List Env) (env : Env) (M : Set ℕ) → IsIn (sets es) M → M ⊆ members env → IsTrue (is_covered es env)
-holds_covered [] env M h within = absurd h
-holds_covered (e ∷ es) env M (inl same) within =
-    let inside : members e ⊆ members env = let P : Set ℕ → Type 0 = λ F. F ⊆ members env in subst P (sym same) within in
-    or_left (is_within SLOTS (members e) (members env)) (is_covered es env) (holds_within SLOTS (members e) (members env) inside)
-holds_covered (e ∷ es) env M (inr h) within = or_right (is_within SLOTS (members e) (members env)) (is_covered es env) (holds_covered es env M h within)
+  pub none_from_one_more : (es : List Env) (i : ℕ) (m : Env) → 0 < i → i ≤ length es → m ≡ get_or es (i - 1) m → NoneFrom es i → (members m ⊆ members env → ⊥) → NoneFrom es (i - 1)
+  none_from_one_more es i m some low is none out k e past at within =
+      elim (nat_lt k i) as (λ b. nat_lt k i ≡ b → ⊥) [
+        | true ↦ λ below.
+            let same : k ≡ i - 1 = grind (arith, nat_tests) in
+            let there : slice_get es (i - 1) ≡ Some m = slice_get-get_or es (i - 1) m (omega arith) ∙ ap (λ x. Some x) (sym is) in
+            let here : slice_get es (i - 1) ≡ Some e = (let P : ℕ → Type 0 = λ n. slice_get es n ≡ Some e in subst P same at) in
+            let both : Some e ≡ Some m = sym here ∙ there in
+            let em : e ≡ m = cc in
+            let P : Env → Type 0 = λ x. members x ⊆ members env in
+            out (subst P em within)
+        | false ↦ λ above. none k e (grind (arith, nat_tests)) at within
+      ] refl
 
-pub covers-any : (es : List Env) (env : Env) (r : Bool) → r ≡ is_covered es env → IsTrue r ↔ IsCovered (IsIn (sets es)) (members env)
-covers-any es env r is = (λ h. covered_holds es env (sym is ∙ h), λ (M, member, within). is ∙ holds_covered es env M member within)
+  pub not_covered_from : (es : List Env) (i : ℕ) → i ≤ 0 → NoneFrom es i → IsCovered (IsIn (sets es)) (members env) → ⊥
+  not_covered_from es i first none (E, member, within) =
+      let e : (e : Env) × IsIn es e × (members e ≡ E) = IsIn-map members es E member in
+      let at : (k : ℕ) × (slice_get es k ≡ Some e.0) = slice_get-IsIn es e.0 e.1 in
+      let P : Set ℕ → Type 0 = λ F. F ⊆ members env in
+      none at.0 e.0 (omega arith) at.1 (subst P (sym e.2) within)
+
+  pub covered_at : (es : List Env) (i : ℕ) (m : Env) → i < length es → m ≡ get_or es i m → members m ⊆ members env → IsCovered (IsIn (sets es)) (members env)
+  covered_at es i m low is within = let P : Env → Type 0 = λ x. IsIn es x in (members m, map-IsIn members es m (subst P (sym is) (IsIn-get_or es i m low)), within)
+
+-- there is a place exactly where the claim holds
+pub some_where_covered : (r : Option ℕ) (P : Type 0) → MatchOption r (P → ⊥) (λ _. P) → IsTrue (is_some r) ↔ P
+some_where_covered None P none = (λ h. absurd (false≢true h), λ p. absurd (none p))
+some_where_covered (Some i) P holds = (λ _. holds, λ _. refl)
 
 -- the sets of the list that are inside the mask
 pub roster-left : (es left : List Env) (mask : Set ℕ) → left ≡ filter (λ e. is_within SLOTS (members e) mask) es → AreDistinct (sets es) → IsRoster (λ E. HasMember es E × (E ⊆ mask)) (sets left)

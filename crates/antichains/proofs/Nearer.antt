@@ -11,7 +11,7 @@ use Rattle.environment_sets.specs.Walks.{ComesAfter, IsFurther, IsNext, GivesNex
 use Rattle.environment_sets.proofs.Listings.{IsIn-push, IsIn-front, IsIn-last}
 use Rattle.environment_sets.proofs.OrderLaws.{order_is_transitive, order_is_total}
 use Rattle.environment_sets.proofs.Left.{count_left-falls}
-use Rattle.antichains.specs.Nearest.{IsFirstOf}
+use Rattle.antichains.specs.Nearest.{IsBehind, IsNearer, IsPassed}
 
 module _ {N : Type 0} (order : List N) (mask : Set N) (last : Option (Set N)) where
   abbrev Further : List (Set N) → Set N → Type 0
@@ -41,33 +41,34 @@ module _ {N : Type 0} (order : List N) (mask : Set N) (last : Option (Set N)) wh
         ];
       }
 
-  -- of a further set and the next one that was found before, the first is the next one
-  pub GivesNext-first : (Es : List (Set N)) (M : Set N) (next : Option (Set N)) (R : Set N) → ListsAll order mask → M ⊆ mask → ComesAfter order last M → GivesNext order (IsIn Es) mask last next → IsFirstOf order next M R → GivesNext order (IsIn (Es ++ M ∷ [])) mask last (Some R)
-  GivesNext-first Es M None R listed inside after none is =
-      subst (λ (G : Set N). IsNext order (IsIn (Es ++ M ∷ [])) mask last G) (sym is) (record {
-        further = record { member = IsIn-last Es M M refl; inside = inside; after = after };
-        first = λ E further. elim (split Es M E further) [ inl before ↦ absurd (none E before) | inr e ↦ inl e ];
-      })
-  GivesNext-first Es M (Some F) R listed inside after next (inl stays) =
-      subst (λ (G : Set N). IsNext order (IsIn (Es ++ M ∷ [])) mask last G) (sym stays.0) (record {
-        further = front Es M F next.further;
-        first = λ E further. elim (split Es M E further) [ inl before ↦ next.first E before | inr e ↦ inr (subst (ComesBefore order F) e stays.1) ];
-      })
-  GivesNext-first Es M (Some F) R listed inside after next (inr nearer) =
-      subst (λ (G : Set N). IsNext order (IsIn (Es ++ M ∷ [])) mask last G) (sym nearer.0) (record {
-        further = record { member = IsIn-last Es M M refl; inside = inside; after = after };
-        first = λ E further. elim (split Es M E further) [
-          | inr e ↦ inl e
-          | inl before ↦ elim (order_is_total N order F M (λ k h. listed k (next.further.inside k h)) (λ k h. listed k (inside k h))) [
-            | inl wrong ↦ absurd (nearer.1 wrong)
-            | inr (inl same) ↦ subst (λ (G : Set N). (G ≡ E) ⊎ ComesBefore order G E) same (next.first E before)
-            | inr (inr earlier) ↦ elim (next.first E before) [
-              | inl e ↦ inr (subst (ComesBefore order M) e earlier)
-              | inr later ↦ inr (order_is_transitive N order M F E earlier later)
-            ]
-          ]
-        ];
-      })
+  -- a set that is behind what was found changes nothing
+  pub GivesNext-behind : (Es : List (Set N)) (M : Set N) (next : Option (Set N)) → IsBehind order next M → GivesNext order (IsIn Es) mask last next → GivesNext order (IsIn (Es ++ M ∷ [])) mask last next
+  GivesNext-behind Es M None behind none = absurd behind
+  GivesNext-behind Es M (Some F) behind next = record {
+    further = front Es M F next.further;
+    first = λ E further. elim (split Es M E further) [ inl before ↦ next.first E before | inr e ↦ inr (subst (ComesBefore order F) e behind) ];
+  }
+
+  -- a further set that is not behind what was found is the next one
+  pub GivesNext-nearer : (Es : List (Set N)) (M : Set N) (next : Option (Set N)) → ListsAll order mask → IsNearer order mask last next M → GivesNext order (IsIn Es) mask last next → GivesNext order (IsIn (Es ++ M ∷ [])) mask last (Some M)
+  GivesNext-nearer Es M None listed nearer none = record {
+    further = record { member = IsIn-last Es M M refl; inside = nearer.inside; after = nearer.after };
+    first = λ E further. elim (split Es M E further) [ inl before ↦ absurd (none E before) | inr e ↦ inl e ];
+  }
+  GivesNext-nearer Es M (Some F) listed nearer next = record {
+    further = record { member = IsIn-last Es M M refl; inside = nearer.inside; after = nearer.after };
+    first = λ E further. elim (split Es M E further) [
+      | inr e ↦ inl e
+      | inl before ↦ elim (order_is_total N order F M (λ k h. listed k (next.further.inside k h)) (λ k h. listed k (nearer.inside k h))) [
+        | inl wrong ↦ absurd (nearer.ahead wrong)
+        | inr (inl same) ↦ subst (λ (G : Set N). (G ≡ E) ⊎ ComesBefore order G E) same (next.first E before)
+        | inr (inr earlier) ↦ elim (next.first E before) [
+          | inl e ↦ inr (subst (ComesBefore order M) e earlier)
+          | inr later ↦ inr (order_is_transitive N order M F E earlier later)
+        ]
+      ]
+    ];
+  }
 
 sets_take : (es : List Env) (i : ℕ) (e : Env) → i < length es → e ≡ get_or es i e → sets (take (i + 1) es) ≡ sets (take i es) ++ members e ∷ []
 sets_take es i e low is = ap sets (take_more es i e low ∙ ap (λ x. take i es ++ x ∷ []) (sym is)) ∙ map-append members (take i es) (e ∷ [])
@@ -76,15 +77,18 @@ module _ (order : List ℕ) (mask : Set ℕ) (last : Option (Set ℕ)) (es : Lis
   abbrev Gives : ℕ → Option (Set ℕ) → Type 0
   Gives n next = GivesNext order (HasMember (take n es)) mask last next
 
-  pub next_stays : (next : Option (Set ℕ)) → ((members e ⊆ mask) × ComesAfter order last (members e) → ⊥) → Gives i next → Gives (i + 1) next
-  next_stays next out gives =
+  pub next_passed : (next : Option (Set ℕ)) → IsPassed order mask last next (members e) → Gives i next → Gives (i + 1) next
+  next_passed next passed gives =
       let P : List (Set ℕ) → Type 0 = λ Es. GivesNext order (IsIn Es) mask last next in
-      subst P (sym (sets_take es i e low is)) (GivesNext-stays order mask last (sets (take i es)) (members e) next out gives)
+      subst P (sym (sets_take es i e low is)) (elim passed [
+        | inl out ↦ GivesNext-stays order mask last (sets (take i es)) (members e) next out gives
+        | inr behind ↦ GivesNext-behind order mask last (sets (take i es)) (members e) next behind gives
+      ])
 
-  pub next_first : (next : Option (Set ℕ)) (R : Set ℕ) → ListsAll order mask → (members e ⊆ mask) × ComesAfter order last (members e) → IsFirstOf order next (members e) R → Gives i next → Gives (i + 1) (Some R)
-  next_first next R listed (inside, after) first gives =
-      let P : List (Set ℕ) → Type 0 = λ Es. GivesNext order (IsIn Es) mask last (Some R) in
-      subst P (sym (sets_take es i e low is)) (GivesNext-first order mask last (sets (take i es)) (members e) next R listed inside after gives first)
+  pub next_nearer : (next : Option (Set ℕ)) → ListsAll order mask → IsNearer order mask last next (members e) → Gives i next → Gives (i + 1) (Some (members e))
+  next_nearer next listed nearer gives =
+      let P : List (Set ℕ) → Type 0 = λ Es. GivesNext order (IsIn Es) mask last (Some (members e)) in
+      subst P (sym (sets_take es i e low is)) (GivesNext-nearer order mask last (sets (take i es)) (members e) next listed nearer gives)
 
 -- what was found is inside the mask
 pub found_listed : (order : List ℕ) (Family : Set ℕ → Type 0) (mask : Set ℕ) (last : Option (Set ℕ)) (next : Option Env) → ListsAll order mask → GivesNext order Family mask last (option_map members next) → (x : Env) → next ≡ Some x → ListsAll order (members x)

@@ -1,5 +1,5 @@
 // Sets of environments, none of which contains another.
-ghost use Rattle.std.specs.Prelude.{◌≡◌, ◌<◌, ◌↔◌, IsTrue, OnErr, IfOk, IfSome, Some, Ok, []};
+ghost use Rattle.std.specs.Prelude.{◌≡◌, ◌<◌, ◌↔◌, IsTrue, OnOk, OnErr, IfOk, IfSome, MatchBool, MatchOption, Some, Ok, []};
 ghost use Rattle.std.specs.Option.{ForSome, option_map, option_copied};
 ghost use Rattle.environment_sets.specs.Sets.{◌⊆◌};
 ghost use Rattle.environment_sets.specs.Lists.{IsRoster};
@@ -7,7 +7,7 @@ ghost use Rattle.environment_sets.specs.Members.{members, sets, HasMember};
 ghost use Rattle.environment_sets.specs.Families.{IsCovered, IsAntichain, Adds, Drops, AreInside};
 ghost use Rattle.environment_sets.specs.Orders.{ListsAll, IsOrder};
 ghost use Rattle.environment_sets.specs.Walks.{ComesAfter, GivesNextEnv, envs_left};
-ghost use Rattle.antichains.specs.Nearest.{IsFirstOf};
+ghost use Rattle.antichains.specs.Nearest.{IsBehind, IsNearer, IsPassed};
 
 use environment_sets::{Env, SLOTS};
 use std::alloc::{AllocError, Global};
@@ -62,13 +62,34 @@ impl Antichain {
         ensures err { OnErr result (self.new ≡ self.old) }
         ensures antichain { IsAntichain (HasMember self.new) }
     {
-        if self.covers(&env) {
+        if self.is_covered(&env) {
             return Ok(Inserted::Covered);
         }
+        self.add(env)?;
+        Ok(Inserted::Added)
+    }
+
+    // Whether a member is a subset of the environment; and none contains another.
+    fn is_covered(&self, env: &Env) -> bool
+        ensures covered { IsTrue result ↔ IsCovered (HasMember self.now) (members env.now) }
+        ensures antichain { IsAntichain (HasMember self.now) }
+    {
+        let _list = &self.list;
+        self.covers(env)
+    }
+
+    /// Puts in an environment that no member is a subset of, and drops the members that contain it. After an error the
+    /// members are as before.
+    pub fn add(&mut self, env: Env) -> Result<(), AllocError>
+        requires { IsCovered (HasMember self.old) (members env) → ⊥ }
+        ensures added { OnOk result (Adds (HasMember self.old) (HasMember self.new) (members env)) }
+        ensures err { OnErr result (self.new ≡ self.old) }
+        ensures antichain { IsAntichain (HasMember self.new) }
+    {
         self.list.reserve(1)?;
         self.list.retain(|kept| !env.is_subset(kept));
         match self.list.push(env) {
-            Ok(()) => Ok(Inserted::Added),
+            Ok(()) => Ok(()),
             Err(_) => unreachable!(),
         }
     }
@@ -105,7 +126,32 @@ impl Antichain {
     pub fn covers(&self, env: &Env) -> bool
         ensures { IsTrue result ↔ IsCovered (HasMember self.now) (members env.now) }
     {
-        self.list.iter().any(|member| member.is_subset(env))
+        place_of_subset(&self.list, env).is_some()
+    }
+
+    /// Whether there is a member at the place, and it is a subset of the environment. For where one place is likely, and the
+    /// answer no says nothing of the others.
+    pub fn covers_at(&self, env: &Env, place: usize) -> bool
+        ensures { IsTrue result → IsCovered (HasMember self.now) (members env.now) }
+    {
+        is_subset_at(&self.list, place, env)
+    }
+
+    /// Whether a member is a subset of the environment. The member at the place is tried first, and where another one is
+    /// found, the place becomes its: of environments that are much alike, one member often covers the next one too.
+    pub fn covers_from(&self, env: &Env, place: &mut usize) -> bool
+        ensures { IsTrue result ↔ IsCovered (HasMember self.now) (members env.now) }
+    {
+        if self.covers_at(env, *place) {
+            return true;
+        }
+        match place_of_subset(&self.list, env) {
+            Some(found) => {
+                *place = found;
+                true
+            }
+            None => false,
+        }
     }
 
     /// Drops the members that have the slot, which is below [`SLOTS`]. It takes no memory.
@@ -137,45 +183,81 @@ impl Antichain {
     {
         let mut next = None;
         for member in &self.list {
-            if is_further(order, mask, last, member) {
-                next = Some(first_of(order, next, *member));
+            if is_nearer(order, mask, last, &next, member) {
+                next = Some(*member);
             }
         }
         next
     }
 }
 
-// Whether the member is inside the mask and comes after the last.
-fn is_further(order: &[u16], mask: &Env, last: Option<&Env>, member: &Env) -> bool
+// The place of one that is a subset of the environment. They are tried from the last, as what was put in lately covers most.
+fn place_of_subset(list: &[Env], env: &Env) -> Option<usize>
+    ensures { MatchOption result (IsCovered (HasMember list.now) (members env.now) → ⊥) (λ _. IsCovered (HasMember list.now) (members env.now)) }
+{
+    for place in (0..list.len()).rev() {
+        if list[place].is_subset(env) {
+            return Some(place);
+        }
+    }
+    None
+}
+
+// Whether there is a member at the place, and it is a subset of the environment.
+fn is_subset_at(list: &[Env], place: usize, env: &Env) -> bool
+    ensures { IsTrue result → IsCovered (HasMember list.now) (members env.now) }
+{
+    match list.get(place) {
+        Some(member) => member.is_subset(env),
+        None => false,
+    }
+}
+
+// Whether the member is inside the mask, comes after the last, and is not behind what was found before.
+fn is_nearer(
+    order: &[u16],
+    mask: &Env,
+    last: Option<&Env>,
+    found: &Option<Env>,
+    member: &Env,
+) -> bool
     requires slots { IsOrder SLOTS order.now }
     requires mask_listed { ListsAll order.now (members mask.now) }
     requires last_listed { ForSome last (λ l. ListsAll order.now (members l.now)) }
-    ensures { IsTrue result ↔ ((members member.now ⊆ members mask.now) × ComesAfter order.now (option_map members (option_copied last.entry)) (members member.now)) }
+    requires found_listed { ForSome found.now (λ e. ListsAll order.now (members e)) }
+    ensures { MatchBool result (IsNearer order.now (members mask.now) (option_map members (option_copied last.entry)) (option_map members found.now) (members member.now)) (IsPassed order.now (members mask.now) (option_map members (option_copied last.entry)) (option_map members found.now) (members member.now)) }
 {
     if !member.is_subset(mask) {
         return false;
     }
-    match last {
-        Some(last) => last.compare_in(order, member).is_lt(),
-        None => true,
+    if is_behind(order, found, member) {
+        return false;
+    }
+    comes_after(order, last, member)
+}
+
+// Whether something was found that comes before the member.
+fn is_behind(order: &[u16], found: &Option<Env>, member: &Env) -> bool
+    requires slots { IsOrder SLOTS order.now }
+    requires found_listed { ForSome found.now (λ e. ListsAll order.now (members e)) }
+    requires listed { ListsAll order.now (members member.now) }
+    ensures { IsTrue result ↔ IsBehind order.now (option_map members found.now) (members member.now) }
+{
+    match found {
+        Some(env) => env.compare_in(order, member).is_lt(),
+        None => false,
     }
 }
 
-// What was found before, or the member where that comes first.
-fn first_of(order: &[u16], found: Option<Env>, member: Env) -> Env
+// Whether the member comes after the last.
+fn comes_after(order: &[u16], last: Option<&Env>, member: &Env) -> bool
     requires slots { IsOrder SLOTS order.now }
-    requires found_listed { ForSome found (λ e. ListsAll order.now (members e)) }
-    requires listed { ListsAll order.now (members member) }
-    ensures { IsFirstOf order.now (option_map members found) (members member) (members result) }
+    requires last_listed { ForSome last (λ l. ListsAll order.now (members l.now)) }
+    requires listed { ListsAll order.now (members member.now) }
+    ensures { IsTrue result ↔ ComesAfter order.now (option_map members (option_copied last.entry)) (members member.now) }
 {
-    match found {
-        Some(env) => {
-            if env.compare_in(order, &member).is_lt() {
-                env
-            } else {
-                member
-            }
-        }
-        None => member,
+    match last {
+        Some(last) => last.compare_in(order, member).is_lt(),
+        None => true,
     }
 }

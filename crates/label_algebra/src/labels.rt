@@ -1,5 +1,5 @@
 // Labels of facts.
-ghost use Rattle.std.specs.Prelude.{◌≡◌, ◌<◌, ◌↔◌, IsTrue, OnErr, IfSome, Some, Ok, []};
+ghost use Rattle.std.specs.Prelude.{◌≡◌, ◌<◌, ◌↔◌, IsTrue, OnOk, OnErr, IfSome, Some, Ok, []};
 ghost use Rattle.std.specs.Option.{ForSome, option_copied};
 ghost use Rattle.environment_sets.specs.Sets.{◌⊆◌};
 ghost use Rattle.environment_sets.specs.Members.{members, HasMember};
@@ -49,6 +49,17 @@ impl Label {
         self.antichain.insert(env)
     }
 
+    /// Puts in an environment that no member is a subset of, and drops the members that contain it. After an error the
+    /// members are as before.
+    pub fn add(&mut self, env: Env) -> Result<(), AllocError>
+        requires { IsCovered (HasMember self.old) (members env) → ⊥ }
+        ensures added { OnOk result (Adds (HasMember self.old) (HasMember self.new) (members env)) }
+        ensures err { OnErr result (self.new ≡ self.old) }
+        ensures antichain { IsAntichain (HasMember self.new) }
+    {
+        self.antichain.add(env)
+    }
+
     /// How many environments of the label are inside the mask.
     pub fn count_inside(&self, mask: &Env) -> usize
         ensures { AreInside (HasMember self.now) (members mask.now) result }
@@ -68,6 +79,22 @@ impl Label {
         ensures { IsTrue result ↔ IsCovered (HasMember self.now) (members env.now) }
     {
         self.antichain.covers(env)
+    }
+
+    /// Whether there is a member at the place, and it is a subset of the environment. For where one place is likely, and the
+    /// answer no says nothing of the others.
+    pub fn covers_at(&self, env: &Env, place: usize) -> bool
+        ensures { IsTrue result → IsCovered (HasMember self.now) (members env.now) }
+    {
+        self.antichain.covers_at(env, place)
+    }
+
+    /// Whether a member is a subset of the environment. The member at the place is tried first, and where another one is
+    /// found, the place becomes its: of environments that are much alike, one member often covers the next one too.
+    pub fn covers_from(&self, env: &Env, place: &mut usize) -> bool
+        ensures { IsTrue result ↔ IsCovered (HasMember self.now) (members env.now) }
+    {
+        self.antichain.covers_from(env, place)
     }
 
     /// Drops the members that have the slot, which is below [`SLOTS`]. It takes no memory.

@@ -31,6 +31,8 @@ use Rattle.inference_search.specs.declared.inferred.Inferred.{Inferred}
 use Rattle.assumption_slots.specs.Slots.{stock}
 use Rattle.inference_search.specs.Inferences.{facts, inference, RecordedIn}
 use Rattle.inference_search.specs.Found.{AreMadeBy}
+use Rattle.label_engine.specs.Update.{AreNeeded}
+use Rattle.label_engine.proofs.Needed.{was_found, said_now}
 
 pub decide : (slot k : ℕ) → (k ≡ slot) ⊎ (k ≢ slot)
 decide slot k =
@@ -192,7 +194,7 @@ module _ (slots : List (Option Assumption)) (w : Update) (rest : IsAtRest (befor
     reading_begins dues e = rw (e, rest.none_due, rest.nothing_waits) first_due
 
   -- a component: its inferences are recorded, and what they lead to is due or waits
-  module _ (part : List Instance) (works : stock slots w.slot ≡ Some (Part part)) (found : List Inferred) (made : AreMadeBy slots (facts_of w.nodes.list.items) w.slot found) where
+  module _ (part : List Instance) (works : stock slots w.slot ≡ Some (Part part)) (all found : List Inferred) (made : AreMadeBy slots (facts_of w.nodes.list.items) w.slot all) (needed : AreNeeded w.recorded.items all found) where
     abbrev New : List Inferred
     New = w.recorded.items ++ found
 
@@ -205,14 +207,14 @@ module _ (slots : List (Option Assumption)) (w : Update) (rest : IsAtRest (befor
     front : (j : RecordedInference) → Old j → RecordedIn New j
     front j r = (r.0, IsIn-left w.recorded.items found r.0 r.1, r.2)
 
-    back : (j : RecordedInference) → RecordedIn found j → RecordedIn New j
-    back j r = (r.0, IsIn-right w.recorded.items found r.0 r.1, r.2)
-
     still : (to : Target) (maker : Option ℕ) (known : Fact → Type 0) → HasInference Old to maker known → HasInference (RecordedIn New) to maker known
     still to maker known j = (j.0, front j.0 j.1, j.2, j.3, j.4)
 
-    now : (to : Target) (maker : Option ℕ) (known : Fact → Type 0) → HasInference (RecordedIn found) to maker known → HasInference (RecordedIn New) to maker known
-    now to maker known j = (j.0, back j.0 j.1, j.2, j.3, j.4)
+    now : (to : Target) (maker : Option ℕ) (known : Fact → Type 0) → HasInference (RecordedIn all) to maker known → HasInference (RecordedIn New) to maker known
+    now = said_now w.recorded.items all found needed
+
+    makes : (i : Inferred) → IsIn found i → i.maker ≡ Some w.slot
+    makes i h = made.maker i (needed.of_found i h)
 
     split : (j : RecordedInference) → RecordedIn New j → Old j ⊎ RecordedIn found j
     split j r = elim (IsIn-append w.recorded.items found r.0 r.1) [ inl o ↦ inl (r.0, o, r.2) | inr n ↦ inr (r.0, n, r.2) ]
@@ -221,7 +223,7 @@ module _ (slots : List (Option Assumption)) (w : Update) (rest : IsAtRest (befor
     now_recorded = record {
       leads = λ j r. elim (split j r) [
         | inl o ↦ leads_more S (stock slots) w.slot more j.from j.maker j.to (rest.up_to_date.are.leads j o)
-        | inr n ↦ made.are.leads j n
+        | inr n ↦ made.are.leads j (was_found w.recorded.items all found needed j n)
       ];
       forced = λ k p instance known q v c named of_part _ held at forces. elim (decide w.slot k) [
         | inl e ↦ now _ _ _ (made.are.forced k p instance known q v c named of_part (ap (λ (x : ℕ). Some x) e) held at forces)
@@ -235,7 +237,7 @@ module _ (slots : List (Option Assumption)) (w : Update) (rest : IsAtRest (befor
     }
 
     now_made : (j : RecordedInference) → RecordedIn New j → Old j ⊎ (j.maker ≡ Some w.slot)
-    now_made j r = elim (split j r) [ inl o ↦ inl o | inr n ↦ inr (sym (ap (λ (i : RecordedInference). i.maker) n.2) ∙ made.maker n.0 n.1) ]
+    now_made j r = elim (split j r) [ inl o ↦ inl o | inr n ↦ inr (sym (ap (λ (i : RecordedInference). i.maker) n.2) ∙ makes n.0 n.1) ]
 
     sound_now : IsSound (stock slots) (KeptIn w.nodes)
     sound_now = sound_more S (stock slots) w.slot more (KeptIn w.nodes) (sound_of_settled S (KeptIn w.nodes) rest.up_to_date.settled)
@@ -269,8 +271,8 @@ module _ (slots : List (Option Assumption)) (w : Update) (rest : IsAtRest (befor
 
     due_leads : (i : Inferred) → IsIn found i → IsTrue (goes_from_none i) → HasAt (stock slots) i.to (members env)
     due_leads i h none =
-        leads_on (stock slots) (members env) (facts i.first i.second) i.maker i.to (made.are.leads (inference i) (i, h, refl))
-        (let P : Option ℕ → Type 0 = λ m. HasMaker m (members env) in subst P (sym (made.maker i h)) (only_maker slots w.slot env is))
+        leads_on (stock slots) (members env) (facts i.first i.second) i.maker i.to (made.are.leads (inference i) (i, needed.of_found i h, refl))
+        (let P : Option ℕ → Type 0 = λ m. HasMaker m (members env) in subst P (sym (makes i h)) (only_maker slots w.slot env is))
         (λ f at. absurd (from_none i.first i.second none f at))
 
     due_now : IsPendingSound (stock slots) (DueIn Dues)
@@ -291,7 +293,7 @@ module _ (slots : List (Option Assumption)) (w : Update) (rest : IsAtRest (befor
       IsSeenTo from ms = IsDue (KeptIn w.nodes) (DueIn Dues) i.to E ⊎ SomeWaits (WaitsIn Items (inference i)) from ms
 
       slot_in : IsTrue (E w.slot)
-      slot_in = maker w.slot (made.maker i of_found)
+      slot_in = maker w.slot (makes i of_found)
 
       due_there : IsTrue (goes_from_none i) → IsDue (KeptIn w.nodes) (DueIn Dues) i.to E
       due_there none = inr (members env, (due_with env i, map-IsIn (due_with env) (filter goes_from_none found) i (IsIn-kept goes_from_none found i of_found none), refl, refl), only_inside slots w.slot env is E slot_in)

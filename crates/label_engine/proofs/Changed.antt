@@ -1,23 +1,16 @@
 -- What the changes of labels leave.
-use Rattle.std.proofs.Common.{◌≡◌, ℕ, ap, subst, ◌∙◌, ◌↔◌, List, get_or, set, position, Some, None, Result, Ok}
+use Rattle.std.proofs.Common.{◌≡◌, ℕ, ap, subst, ◌∙◌, ◌↔◌, List, get_or, set, position, Some, None}
 use Rattle.circuit_model.specs.declared.model.Fact.{Fact}
 use Rattle.environment_sets.specs.declared.environment.Env.{Env}
 use Rattle.environment_sets.specs.Sets.{Set, ◌⊆◌}
 use Rattle.environment_sets.specs.Members.{members, HasMember}
-use Rattle.antichains.specs.declared.antichain.Inserted.{Inserted}
-use Rattle.antichains.specs.declared.antichain.Inserted.TheVariants.{Covered, Added}
-use Rattle.environment_sets.specs.Families.{IsCovered, Adds}
+use Rattle.environment_sets.specs.Families.{Adds}
 use Rattle.propagation.specs.Propagating.{IsPut}
 use Rattle.label_engine.specs.declared.nodes.Node.{Node}
 use Rattle.label_engine.specs.declared.nodes.Nodes.{Nodes}
 use Rattle.label_engine.specs.Nodes.{label_in, KeptIn, EachDrops}
 use Rattle.label_engine.proofs.Labelled.{is_at, label_at, label_there, label_elsewhere, same_or_not, inside_or_not, dropped_label}
 use Rattle.label_engine.proofs.Puts.{put_fact, put_clash}
-
--- what is not covered was added
-pub inserted : {E : Type 0} (r : Result Inserted E) (x : Inserted) (old new : List Env) (U : Set ℕ) → r ≡ Ok x → (r ≡ Ok Covered → IsCovered (HasMember old) U) → (r ≡ Ok Added → Adds (HasMember old) (HasMember new) U) → (IsCovered (HasMember old) U → ⊥) → Adds (HasMember old) (HasMember new) U
-inserted r Covered old new U is covered added out = absurd (out (covered is))
-inserted r Added old new U is covered added out = added is
 
 module _ (old new : Nodes) (e : Env) where
   -- the label of one fact gains an environment

@@ -1,6 +1,6 @@
 -- Without an assumption that was remembered: labels and nogoods without its slot.
-use Rattle.std.proofs.Common.{◌≡◌, ◌≢◌, ◌↔◌, ℕ, zero, suc, ◌⊎◌, inl, inr, Bool, true, false, ◌==◌, ◌&&◌, not, cond, IsTrue, IsFalse, true≢false, refl, sym, ap, ap₂, subst, ◌∙◌, List, [], ◌∷◌, set, filter, Option, Some, None, IsSome, arith}
-use Rattle.std.specs.List.{find, list_any}
+use Rattle.std.proofs.Common.{◌≡◌, ◌≢◌, ℕ, zero, suc, ◌⊎◌, inl, inr, Bool, true, false, ◌==◌, ◌&&◌, not, cond, IsTrue, IsFalse, true≢false, refl, sym, ap, subst, ◌∙◌, List, [], ◌∷◌, set, filter, Option, Some, None, IsSome, arith}
+use Rattle.std.specs.List.{find}
 use Rattle.std.proofs.lemmas.Bool.{and_from, and_parts, not-true, not_from_false, false_from_ne_true}
 use Rattle.std.proofs.lemmas.Bool.Decides.{nat_tests}
 use Rattle.circuit_model.specs.declared.model.Cell.{Cell}
@@ -12,16 +12,16 @@ use Rattle.circuit_model.specs.Settled.{IsSettled}
 use Rattle.circuit_model.specs.Stock.{Stock, IsEnvironment}
 use Rattle.circuit_model.proofs.Monotony.{AreHeld-map, IsForced-map, IsRefuted-map}
 use Rattle.environment_sets.specs.declared.environment.Env.{Env}
-use Rattle.environment_sets.specs.Sets.{Set, ◌⊆◌}
+use Rattle.environment_sets.specs.Sets.{Set}
 use Rattle.environment_sets.specs.Members.{HasMember}
 use Rattle.environment_sets.specs.Lists.{IsIn, AreDistinct}
 use Rattle.environment_sets.specs.Families.{IsCovered, Drops}
 use Rattle.environment_sets.proofs.Listings.{IsIn-filter, IsIn-kept}
 use Rattle.environment_sets.proofs.Membership.{IsIn-map, map-IsIn, list_any-IsIn}
-use Rattle.propagation.specs.Propagating.{Target, Family, RecordedInference, HasAt, IsMaker, Leads, All, AreRecorded, HasInference, IsEither}
+use Rattle.propagation.specs.Propagating.{Target, Family, RecordedInference, IsMaker, Leads, All, AreRecorded, HasInference, IsEither}
 use Rattle.propagation.proofs.Entry.{has_in_part}
 use Rattle.inference_search.specs.declared.inferred.Inferred.{Inferred}
-use Rattle.inference_search.specs.Inferences.{facts, inference, RecordedIn}
+use Rattle.inference_search.specs.Inferences.{facts, RecordedIn}
 use Rattle.assumption_slots.specs.Slots.{stock}
 use Rattle.label_engine.specs.declared.nodes.Node.{Node}
 use Rattle.label_engine.specs.declared.update.Update.{Update}

@@ -10,7 +10,7 @@ use Rattle.environment_sets.specs.Sets.{Set}
 use Rattle.environment_sets.specs.Members.{members}
 use Rattle.environment_sets.specs.Lists.{IsIn}
 use Rattle.environment_sets.proofs.Slots.{slots_are_below}
-use Rattle.propagation.specs.Propagating.{Target, RecordedInference, IsReached, AgreeWithout, IsPut, IsPropagating}
+use Rattle.propagation.specs.Propagating.{Target, RecordedInference, Using, IsReached, AgreeWithout, IsPut, IsPropagating}
 use Rattle.propagation.specs.Uncovered.{uncovered, TargetFits}
 use Rattle.propagation.proofs.Uncovered.{uncovered_less}
 use Rattle.propagation.proofs.Meeting.{recorded_met}
@@ -21,10 +21,11 @@ use Rattle.label_engine.specs.declared.nodes.Insertion.{Insertion}
 use Rattle.inference_search.specs.declared.inferred.Inferred.{Inferred}
 use Rattle.label_engine.specs.declared.update.Pending.{Pending}
 use Rattle.label_engine.specs.Nodes.{facts_of, KeptIn, reaches}
-use Rattle.label_engine.specs.Update.{is_same_target, goes_from, DueIn, WaitsIn, Holds, item_at, items_at, items_for}
+use Rattle.label_engine.specs.Update.{is_same_target, goes_from, AreNeeded, DueIn, WaitsIn, Holds, item_at, items_at, items_for}
 use Rattle.assumption_slots.specs.Slots.{stock}
 use Rattle.inference_search.specs.Inferences.{facts, inference, RecordedIn}
 use Rattle.inference_search.specs.Found.{AreFound}
+use Rattle.label_engine.proofs.Needed.{needed_are}
 use Rattle.label_engine.proofs.Families.{same_target, target_same, reached_is, is_reached_of, not_reached_is}
 
 module _ (slots : List (Option Assumption)) (slot : ℕ) (labels : Nodes) (recorded : List Inferred) (due : Insertion) (dues : List Insertion) (agenda : List Pending) where
@@ -50,30 +51,27 @@ module _ (slots : List (Option Assumption)) (slot : ℕ) (labels : Nodes) (recor
 
   -- a fact comes met
   pub holds_met :
-      Before → (f : Fact) → (IsIn Met f → ⊥) → (found : List Inferred) → AreFound slots Met f found
-      → IsPropagating (stock slots) slot (IsIn (Met ++ f ∷ [])) (KeptIn labels) (RecordedIn (recorded ++ found)) (DueIn (due ∷ dues)) (WaitsIn agenda)
-  holds_met was f unmet found are =
+      Before → (f : Fact) → (IsIn Met f → ⊥) → (found needed : List Inferred) → AreFound slots Met f found → AreNeeded recorded found needed
+      → IsPropagating (stock slots) slot (IsIn (Met ++ f ∷ [])) (KeptIn labels) (RecordedIn (recorded ++ needed)) (DueIn (due ∷ dues)) (WaitsIn agenda)
+  holds_met was f unmet found needed are are_needed =
       whole.fact_met (stock slots) slot (IsIn Met) (KeptIn labels) (RecordedIn recorded) (DueIn (due ∷ dues)) (WaitsIn agenda) was f
       unmet
       (IsIn (Met ++ f ∷ [])) (λ g a. IsIn-left Met (f ∷ []) g a)
-      (RecordedIn (recorded ++ found)) more new
-      (recorded_met (stock slots) (IsIn Met) (IsIn (Met ++ f ∷ [])) f split (RecordedIn recorded) (RecordedIn found) (RecordedIn (recorded ++ found)) was.are more (λ j r. (r.0, IsIn-right recorded found r.0 r.1, r.2)) only are.are)
+      (RecordedIn (recorded ++ needed)) more new
+      (recorded_met (stock slots) (IsIn Met) (IsIn (Met ++ f ∷ [])) f split (RecordedIn recorded) (RecordedIn (recorded ++ needed)) (RecordedIn (recorded ++ needed)) was.are more (λ j r. r) (λ j r. inr r) (needed_are recorded found needed are_needed (stock slots) (λ g. IsIn Met g ⊎ (g ≡ f)) (Using f) was.are.leads are.are))
     where
-      more : (j : RecordedInference) → RecordedIn recorded j → RecordedIn (recorded ++ found) j
-      more j r = (r.0, IsIn-left recorded found r.0 r.1, r.2)
+      more : (j : RecordedInference) → RecordedIn recorded j → RecordedIn (recorded ++ needed) j
+      more j r = (r.0, IsIn-left recorded needed r.0 r.1, r.2)
 
-      new : (j : RecordedInference) → RecordedIn (recorded ++ found) j → RecordedIn recorded j ⊎ IsIn j.from f
+      new : (j : RecordedInference) → RecordedIn (recorded ++ needed) j → RecordedIn recorded j ⊎ IsIn j.from f
       new j r =
-          elim (IsIn-append recorded found r.0 r.1) [
+          elim (IsIn-append recorded needed r.0 r.1) [
             | inl o ↦ inl (r.0, o, r.2)
-            | inr n ↦ inr (let P : RecordedInference → Type 0 = λ i. IsIn i.from f in subst P r.2 (are.uses r.0 n))
+            | inr n ↦ inr (let P : RecordedInference → Type 0 = λ i. IsIn i.from f in subst P r.2 (are.uses r.0 (are_needed.of_found r.0 n)))
           ]
 
       split : (g : Fact) → IsIn (Met ++ f ∷ []) g → IsIn Met g ⊎ (g ≡ f)
       split g i = elim (IsIn-append Met (f ∷ []) g i) [ inl a ↦ inl a | inr l ↦ elim l [ inl e ↦ inr (sym e) | inr bad ↦ absurd bad ] ]
-
-      only : (j : RecordedInference) → RecordedIn (recorded ++ found) j → RecordedIn recorded j ⊎ RecordedIn found j
-      only j r = elim (IsIn-append recorded found r.0 r.1) [ inl o ↦ inl (r.0, o, r.2) | inr n ↦ inr (r.0, n, r.2) ]
 
   module _
       (was : Before) (not_reached : IsReached (KeptIn labels) due.target (members due.env) → ⊥) (were_met : (f : Fact) → due.target ≡ Some f → IsIn Met f) (after : Nodes)

@@ -17,7 +17,7 @@ use Rattle.label_engine.specs.declared.nodes.Insertion.{Insertion}
 use Rattle.inference_search.specs.declared.inferred.Inferred.{Inferred}
 use Rattle.label_engine.specs.declared.update.Pending.{Pending}
 use Rattle.label_engine.specs.Nodes.{facts_of, KeptIn}
-use Rattle.label_engine.specs.Update.{is_same_target, other_fact, made_by, DueIn, WaitsIn, Holds, IsUnion, HasUnions}
+use Rattle.label_engine.specs.Update.{is_same_target, other_fact, made_by, DueIn, WaitsIn, Holds, union_of, IsUnion, HasUnions}
 use Rattle.assumption_slots.specs.Slots.{stock}
 use Rattle.assumption_slots.proofs.Remembered.{some_within}
 use Rattle.environment_sets.specs.declared.environment.TheConstants.{SLOTS}
@@ -59,33 +59,33 @@ from_at_or_other (Some a) (Some b) i ea eb at h f g =
     ] refl
 
 -- what is in a union
-module _ (item : Pending) (A : Set ℕ) (d : Insertion) (u : IsUnion item A d) where
-  joined : (n : ℕ) → members d.env n ≡ ((members item.env ∪ A) ∪ made_by item.inferred.maker) n
-  joined n = ap (λ (F : Set ℕ). F n) u.joined
+module _ (item : Pending) (A F : Set ℕ) (is : F ≡ union_of item A) where
+  joined : (n : ℕ) → F n ≡ union_of item A n
+  joined n = ap (λ (G : Set ℕ). G n) is
 
-  of_union : (n : ℕ) → IsTrue (members d.env n) → IsTrue (members item.env n) ⊎ (IsTrue (A n) ⊎ (item.inferred.maker ≡ Some n))
+  of_union : (n : ℕ) → IsTrue (F n) → IsTrue (members item.env n) ⊎ (IsTrue (A n) ⊎ (item.inferred.maker ≡ Some n))
   of_union n h =
-      elim (or_cases ((members item.env ∪ A) n) _ (sym (joined n) ∙ h)) [
-        | inl r ↦ elim (or_cases (members item.env n) (A n) r) [ inl a ↦ inl a | inr b ↦ inr (inl b) ]
-        | inr m ↦ inr (inr (maker_is item.inferred.maker n m))
+      elim (or_cases ((members item.env ∪ made_by item.inferred.maker) n) (A n) (sym (joined n) ∙ h)) [
+        | inl r ↦ elim (or_cases (members item.env n) (made_by item.inferred.maker n) r) [ inl a ↦ inl a | inr m ↦ inr (inr (maker_is item.inferred.maker n m)) ]
+        | inr b ↦ inr (inl b)
       ]
 
   -- a union lies in each set that has its parts
-  union_inside : (E : Set ℕ) → members item.env ⊆ E → A ⊆ E → HasMaker item.inferred.maker E → members d.env ⊆ E
+  union_inside : (E : Set ℕ) → members item.env ⊆ E → A ⊆ E → HasMaker item.inferred.maker E → F ⊆ E
   union_inside E at inside maker n h =
       elim (of_union n h) [
         | inl a ↦ at n a
         | inr r ↦ elim r [ inl b ↦ inside n b | inr m ↦ maker n m ]
       ]
 
-  in_union_maker : HasMaker item.inferred.maker (members d.env)
-  in_union_maker n e = joined n ∙ or_right ((members item.env ∪ A) n) _ (is_maker_of item.inferred.maker n e)
+  in_union_maker : HasMaker item.inferred.maker F
+  in_union_maker n e = joined n ∙ or_left ((members item.env ∪ made_by item.inferred.maker) n) (A n) (or_right (members item.env n) _ (is_maker_of item.inferred.maker n e))
 
-  in_union_at : members item.env ⊆ members d.env
-  in_union_at n h = joined n ∙ or_left ((members item.env ∪ A) n) _ (or_left _ _ h)
+  in_union_at : members item.env ⊆ F
+  in_union_at n h = joined n ∙ or_left ((members item.env ∪ made_by item.inferred.maker) n) (A n) (or_left (members item.env n) _ h)
 
-  in_union_other : A ⊆ members d.env
-  in_union_other n h = joined n ∙ or_left ((members item.env ∪ A) n) _ (or_right (members item.env n) _ h)
+  in_union_other : A ⊆ F
+  in_union_other n h = joined n ∙ or_right ((members item.env ∪ made_by item.inferred.maker) n) (A n) h
 
 module _ (slots : List (Option Assumption)) (slot : ℕ) (labels : Nodes) (recorded : List Inferred) (dues dues' : List Insertion) (agenda : List Pending) (item : Pending)
     (was : Holds slots slot labels recorded dues (item ∷ agenda)) (u : HasUnions item labels dues dues') where
@@ -111,7 +111,7 @@ module _ (slots : List (Option Assumption)) (slot : ℕ) (labels : Nodes) (recor
   -- a union with what has the other_fact is sound
   union_environment : (A : Set ℕ) (d : Insertion) → IsUnion item A d → IsEnvironment S A → IsEnvironment S (members d.env)
   union_environment A d is env n h =
-      elim (of_union item A d is n h) [
+      elim (of_union item A (members d.env) is.joined n h) [
         | inl a ↦ was.waiting.environment It item.at (members item.env) it_waits n a
         | inr r ↦ elim r [ inl b ↦ env n b | inr m ↦ maker_some S It.from It.maker It.to leads n m ]
       ]
@@ -119,9 +119,9 @@ module _ (slots : List (Option Assumption)) (slot : ℕ) (labels : Nodes) (recor
   union_has : (A : Set ℕ) (d : Insertion) → IsUnion item A d → ((f : Fact) → other_fact item.inferred item.at ≡ Some f → Has S f A) → HasAt S d.target (members d.env)
   union_has A d is has =
       let P : Target → Type 0 = λ t. HasAt S t (members d.env) in
-      subst P (sym is.target) (leads_on S (members d.env) It.from It.maker It.to leads (in_union_maker item A d is) (λ f i. elim (from_at_or_other item.inferred.first item.inferred.second item.inferred refl refl item.at at_from f i) [
-        | inl e ↦ let Q : Fact → Type 0 = λ g. Has S g (members d.env) in subst Q (sym e) (has_more S (members d.env) (Some item.at) (members item.env) (in_union_at item A d is) (was.waiting.sound It item.at (members item.env) it_waits))
-        | inr e ↦ has_more S (members d.env) (Some f) A (in_union_other item A d is) (has f e)
+      subst P (sym is.target) (leads_on S (members d.env) It.from It.maker It.to leads (in_union_maker item A (members d.env) is.joined) (λ f i. elim (from_at_or_other item.inferred.first item.inferred.second item.inferred refl refl item.at at_from f i) [
+        | inl e ↦ let Q : Fact → Type 0 = λ g. Has S g (members d.env) in subst Q (sym e) (has_more S (members d.env) (Some item.at) (members item.env) (in_union_at item A (members d.env) is.joined) (was.waiting.sound It item.at (members item.env) it_waits))
+        | inr e ↦ has_more S (members d.env) (Some f) A (in_union_other item A (members d.env) is.joined) (has f e)
       ]))
 
   due_environments : (t : Target) (E : Set ℕ) → DueIn dues' t E → IsEnvironment S E
@@ -150,10 +150,15 @@ module _ (slots : List (Option Assumption)) (slot : ℕ) (labels : Nodes) (recor
   IsDueNow E = IsDue (KeptIn labels) (DueIn dues') item.inferred.to E
 
   due_of : (A E : Set ℕ) (d : Insertion) → IsIn dues' d → IsUnion item A d → members item.env ⊆ E → A ⊆ E → HasMaker item.inferred.maker E → IsDueNow E
-  due_of A E d i is at inside maker = inr (members d.env, (d, i, is.target, refl), union_inside item A d is E at inside maker)
+  due_of A E d i is at inside maker = inr (members d.env, (d, i, is.target, refl), union_inside item A (members d.env) is.joined E at inside maker)
 
   with_other : (g : Fact) (m E : Set ℕ) → other_fact item.inferred item.at ≡ Some g → KeptIn labels (Some g) m → m ⊆ E → members item.env ⊆ E → HasMaker item.inferred.maker E → IsDueNow E
-  with_other g m E e kept inside at maker = let d : (d : Insertion) × IsIn dues' d × IsUnion item m d = u.each g m e kept in due_of m E d.0 d.1 d.2 at inside maker
+  with_other g m E e kept inside at maker =
+      let within : union_of item m ⊆ E = union_inside item m (union_of item m) refl E at inside maker in
+      elim (u.each g m e kept) [
+        | inl due ↦ due_of m E due.0 due.1 due.2 at inside maker
+        | inr reached ↦ inl (elim reached [ inl c ↦ inl (c.0, c.1, λ k h. within k (c.2 k h)) | inr c ↦ inr (c.0, c.1, λ k h. within k (c.2 k h)) ])
+      ]
 
   same_at : (m E : Set ℕ) → m ≡ members item.env → m ⊆ E → members item.env ⊆ E
   same_at m E e inside = let P : Set ℕ → Type 0 = λ F. F ⊆ E in subst P e inside

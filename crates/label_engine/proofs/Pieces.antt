@@ -31,7 +31,7 @@ IfOk-map (Ok x) f h = f x h
 IfOk-map (Err e) f h = h
 
 -- the unions with the other_fact's label are all unions
-pub unions_with_other : (item : Pending) (labels : Nodes) (g : Fact) (old new : List Insertion) → other_fact item.inferred item.at ≡ Some g → HasUnionsWith item (label_in labels.list.items g) old new → HasUnions item labels old new
+pub unions_with_other : (item : Pending) (labels : Nodes) (g : Fact) (old new : List Insertion) → other_fact item.inferred item.at ≡ Some g → HasUnionsWith item labels (label_in labels.list.items g) old new → HasUnions item labels old new
 unions_with_other item labels g old new p u = record {
   stays = u.stays;
   alone = λ e. absurd (let bad : Some g ≡ None = sym p ∙ e in cc);
@@ -135,7 +135,7 @@ module _ (slots : List (Option Assumption)) where
     ready_now_met f old new was at unmet same e = record {
       due_also =
           let P : Family → Type 0 = λ K. IsPropagating (stock slots) new.slot (IsIn (facts_of new.nodes.list.items)) K (RecordedIn new.recorded.items) (DueIn (due ∷ new.due.items)) (WaitsIn new.agenda) in
-          subst P (sym (same_family old.nodes new.nodes same.labels same.nogoods)) (rw (e.slot, e.met, e.recorded, e.due, e.agenda) (holds_met slots old.slot old.nodes old.recorded.items due old.due.items old.agenda was f unmet e.found e.are_found));
+          subst P (sym (same_family old.nodes new.nodes same.labels same.nogoods)) (rw (e.slot, e.met, e.recorded, e.due, e.agenda) (holds_met slots old.slot old.nodes old.recorded.items due old.due.items old.agenda was f unmet e.found e.needed e.are_found e.are_needed));
       were_met = λ g same_target. rw e.met (let both : Some f ≡ Some g = sym at ∙ same_target in let gf : f ≡ g = cc in subst (IsIn (facts_of old.nodes.list.items ++ f ∷ [])) gf (IsIn-right (facts_of old.nodes.list.items) (f ∷ []) f (inl refl)));
       labels_same = same.labels;
       nogoods_same = same.nogoods;

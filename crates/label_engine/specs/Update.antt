@@ -11,14 +11,14 @@ use Rattle.environment_sets.specs.Sets.{Set, ◌∪◌, no_elements, only}
 use Rattle.environment_sets.specs.Members.{members, HasMember}
 use Rattle.environment_sets.specs.Lists.{IsIn, AreDistinct}
 use Rattle.environment_sets.specs.Families.{Drops}
-use Rattle.propagation.specs.Propagating.{Target, Family, RecordedInference, All, AreRecorded, IsPropagating, AgreeWithout, IsPut}
+use Rattle.propagation.specs.Propagating.{Target, Family, RecordedInference, All, AreRecorded, IsPropagating, IsReached, AgreeWithout, IsPut}
 use Rattle.propagation.specs.Uncovered.{uncovered}
 use Rattle.label_engine.specs.declared.nodes.Node.{Node}
 use Rattle.label_engine.specs.declared.nodes.Nodes.{Nodes}
 use Rattle.label_engine.specs.declared.nodes.Insertion.{Insertion}
 use Rattle.inference_search.specs.declared.inferred.Inferred.{Inferred}
 use Rattle.assumption_slots.specs.Slots.{stock}
-use Rattle.inference_search.specs.Inferences.{inference, RecordedIn}
+use Rattle.inference_search.specs.Inferences.{facts, inference, RecordedIn}
 use Rattle.inference_search.specs.Found.{AreFound}
 use Rattle.label_engine.specs.declared.update.Pending.{Pending}
 use Rattle.label_engine.specs.declared.update.Update.{Update}
@@ -34,6 +34,41 @@ is_same_target (Some f) (Some g) = is_same f g
 -- the inference goes from the fact
 abbrev pub goes_from : Fact → Inferred → Bool
 goes_from f i = is_same_target i.first (Some f) || is_same_target i.second (Some f)
+
+-- the two are made by the same component, or both by none
+abbrev pub is_same_maker : Option ℕ → Option ℕ → Bool
+is_same_maker None None = true
+is_same_maker None (Some k) = false
+is_same_maker (Some k) None = false
+is_same_maker (Some k) (Some l) = k == l
+
+-- there is no fact, or the inference goes from it
+abbrev pub goes_from_any : Option Fact → Inferred → Bool
+goes_from_any None i = true
+goes_from_any (Some f) i = goes_from f i
+
+-- whether the one leads to the same as the other, by the same maker, and from no further fact
+unfoldable pub says_as_much : Inferred → Inferred → Bool
+says_as_much j i = is_same_target j.to i.to && (is_same_maker j.maker i.maker && (goes_from_any j.first i && goes_from_any j.second i))
+
+-- the one leads to the same as the other, by the same maker, and from no further fact
+pub record SaysAsMuch (j i : Inferred) : Type 0 where
+  pub to : j.to ≡ i.to
+  pub maker : j.maker ≡ i.maker
+  pub from : (f : Fact) → IsIn (facts j.first j.second) f → IsIn (facts i.first i.second) f
+
+-- one that is recorded, or is to be recorded, says as much
+abbrev pub IsSaid : List Inferred → List Inferred → Inferred → Type 0
+IsSaid recorded needed i = (j : Inferred) × (IsIn recorded j ⊎ IsIn needed j) × SaysAsMuch j i
+
+-- of what was found, what is to be recorded: for each that was found, one that is recorded, or is to be, says as much
+pub record AreNeeded (recorded found needed : List Inferred) : Type 0 where
+  pub of_found : (i : Inferred) → IsIn needed i → IsIn found i
+  pub said : (i : Inferred) → IsIn found i → IsSaid recorded needed i
+
+-- the inference is to be recorded too, or one says as much and all stays
+abbrev pub IsNeededOrSaid : List Inferred → Inferred → List Inferred → List Inferred → Type 0
+IsNeededOrSaid recorded i old new = (new ≡ old ++ i ∷ []) ⊎ ((new ≡ old) × IsSaid recorded old i)
 
 -- the environments that are to be put in at each target
 abbrev pub DueIn : List Insertion → Family
@@ -103,23 +138,44 @@ abbrev pub made_by : Option ℕ → Set ℕ
 made_by None = no_elements
 made_by (Some k) = only k
 
--- what is due is the union of the item's environment, a set of the other fact and the maker, at what the inference leads to
+-- the item's environment, its maker and another set together
+abbrev pub union_of : Pending → Set ℕ → Set ℕ
+union_of item E = (members item.env ∪ made_by item.inferred.maker) ∪ E
+
+-- what is due is the item's union with a set, at what the inference leads to
 pub record IsUnion (item : Pending) (E : Set ℕ) (d : Insertion) : Type 0 where
   pub target : d.target ≡ item.inferred.to
-  pub joined : members d.env ≡ (members item.env ∪ E) ∪ made_by item.inferred.maker
+  pub joined : members d.env ≡ union_of item E
 
--- what was due still is, and besides exactly a union for each environment of the label
-pub record HasUnionsWith (item : Pending) (label : List Env) (old new : List Insertion) : Type 0 where
+-- what all unions of the item have, at what the inference leads to
+pub record BeginsUnions (item : Pending) (d : Insertion) : Type 0 where
+  pub target : d.target ≡ item.inferred.to
+  pub joined : members d.env ≡ members item.env ∪ made_by item.inferred.maker
+
+-- the item's union with the set is due, or reached already
+abbrev pub IsDueOrReached : Pending → Nodes → List Insertion → Set ℕ → Type 0
+IsDueOrReached item nodes due E = ((d : Insertion) × IsIn due d × IsUnion item E d) ⊎ IsReached (KeptIn nodes) item.inferred.to (union_of item E)
+
+-- each of the environments is kept at the target
+abbrev pub AreKeptAt : Nodes → Target → List Env → Type 0
+AreKeptAt nodes t envs = (E : Set ℕ) → HasMember envs E → KeptIn nodes t E
+
+-- it is due too, or it is reached and what is due stays
+abbrev pub IsAddedOrReached : Nodes → Insertion → List Insertion → List Insertion → Type 0
+IsAddedOrReached nodes d old new = (new ≡ old ++ d ∷ []) ⊎ ((new ≡ old) × IsReached (KeptIn nodes) d.target (members d.env))
+
+-- what was due still is; a union for each environment of the label is due too, or reached; and nothing else is due
+pub record HasUnionsWith (item : Pending) (nodes : Nodes) (label : List Env) (old new : List Insertion) : Type 0 where
   pub stays : (d : Insertion) → IsIn old d → IsIn new d
-  pub each : (E : Set ℕ) → HasMember label E → (d : Insertion) × IsIn new d × IsUnion item E d
+  pub each : (E : Set ℕ) → HasMember label E → IsDueOrReached item nodes new E
   pub only : (d : Insertion) → IsIn new d → IsIn old d ⊎ ((E : Set ℕ) × HasMember label E × IsUnion item E d)
 
--- what was due still is, and besides exactly the item's unions: with nothing where there is no other fact, and else with each
--- environment of the other fact's label
+-- what was due still is, and the item's unions, with nothing where there is no other fact, and else with each environment of the
+-- other fact's label, are due too, or reached; and nothing else is due
 pub record HasUnions (item : Pending) (nodes : Nodes) (old new : List Insertion) : Type 0 where
   pub stays : (d : Insertion) → IsIn old d → IsIn new d
   pub alone : other_fact item.inferred item.at ≡ None → (d : Insertion) × IsIn new d × IsUnion item no_elements d
-  pub each : (g : Fact) (E : Set ℕ) → other_fact item.inferred item.at ≡ Some g → KeptIn nodes (Some g) E → (d : Insertion) × IsIn new d × IsUnion item E d
+  pub each : (g : Fact) (E : Set ℕ) → other_fact item.inferred item.at ≡ Some g → KeptIn nodes (Some g) E → IsDueOrReached item nodes new E
   pub only :
       (d : Insertion) → IsIn new d
       → IsIn old d ⊎ (((other_fact item.inferred item.at ≡ None) × IsUnion item no_elements d) ⊎ ((g : Fact) × (E : Set ℕ) × (other_fact item.inferred item.at ≡ Some g) × KeptIn nodes (Some g) E × IsUnion item E d))
@@ -188,11 +244,13 @@ pub record AreKeptAlike (old new : Update) : Type 0 where
   pub labels : (f : Fact) → label_in new.nodes.list.items f ≡ label_in old.nodes.list.items f
   pub nogoods : new.nodes.nogoods ≡ old.nodes.nogoods
 
--- the fact was met: the inferences that use it are recorded, and all else is as before
+-- the fact was met: of the inferences that use it, those that are needed are recorded, and all else is as before
 pub record HasMet (slots : List (Option Assumption)) (f : Fact) (old new : Update) : Type 0 where
   pub found : List Inferred
   pub are_found : AreFound slots (facts_of old.nodes.list.items) f found
-  pub recorded : new.recorded.items ≡ old.recorded.items ++ found
+  pub needed : List Inferred
+  pub are_needed : AreNeeded old.recorded.items found needed
+  pub recorded : new.recorded.items ≡ old.recorded.items ++ needed
   pub met : facts_of new.nodes.list.items ≡ facts_of old.nodes.list.items ++ f ∷ []
   pub due : new.due.items ≡ old.due.items
   pub agenda : new.agenda ≡ old.agenda

@@ -4,6 +4,7 @@
 mod engine;
 mod nodes;
 mod questions;
+mod recording;
 mod update;
 
 pub use engine::{Engine, Stop};

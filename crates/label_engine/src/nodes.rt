@@ -137,7 +137,7 @@ impl Nodes {
         ensures err_nogoods { OnErr result (self.new.nogoods ≡ self.old.nogoods) }
         ensures facts { facts_of self.new.list.items ≡ facts_of self.old.list.items }
     {
-        self.nogoods.insert(*env)?;
+        self.nogoods.add(*env)?;
         drop_over(&mut self.list, env);
         Ok(())
     }
@@ -153,7 +153,7 @@ impl Nodes {
     {
         let place = place_of(&self.list, fact).unwrap();
         let node = &mut self.list[place];
-        node.label.insert(*env)?;
+        node.label.add(*env)?;
         Ok(())
     }
 

@@ -1,8 +1,10 @@
 // Bringing labels up to date with one assumption more: what follows is inferred until nothing waits.
 
 ghost use Rattle.std.specs.Prelude.{IsTrue, ◌≡◌, ℕ, ◌^◌, ◌<◌, ◌++◌, ◌∷◌, [], List, filter, length, IfOk, IfErr, IfSome, IsSome, Some, map, take};
+ghost use Rattle.std.specs.Option.{ForSome};
 ghost use Rattle.environment_sets.specs.declared.environment.TheConstants.{SLOTS};
 ghost use Rattle.environment_sets.specs.Members.{members, HasMember};
+ghost use Rattle.environment_sets.specs.Sets.{◌∪◌};
 ghost use Rattle.environment_sets.specs.Lists.{AreDistinct};
 ghost use Rattle.environment_sets.specs.Families.{Drops};
 ghost use Rattle.circuit_model.specs.declared.model.Instance.{Instance};
@@ -10,10 +12,11 @@ ghost use Rattle.circuit_model.specs.declared.model.Assumption.TheVariants.{Part
 ghost use Rattle.propagation.specs.Uncovered.{Fits, TargetFits};
 ghost use Rattle.propagation.specs.Propagating.{IsReached};
 ghost use Rattle.label_engine.specs.Nodes.{facts_of, KeptIn, IsMet, EachDrops};
-ghost use Rattle.label_engine.specs.Update.{is_same_target, goes_from, item_at, some_fact, goes_from_none, due_with, items_with, items_from, other_fact, made_by, HasUnions, HasUnionsWith, HasMet, AreKeptAlike, IsPutThere, Propagates, DueAlso, WaitsAlso, CarriesOn, IsReady, IsUnion, Survives, before, IsAtRest, IsTakenBack, is_made_at, is_met_or_none, is_still_met, HasForgotten};
+ghost use Rattle.label_engine.specs.Update.{goes_from, item_at, some_fact, goes_from_none, due_with, items_with, items_from, other_fact, made_by, HasUnions, HasUnionsWith, HasMet, AreKeptAlike, IsPutThere, Propagates, DueAlso, WaitsAlso, CarriesOn, IsReady, BeginsUnions, AreKeptAt, IsAddedOrReached, Survives, before, IsAtRest, IsTakenBack, is_made_at, is_met_or_none, is_still_met, HasForgotten};
 ghost use Rattle.assumption_slots.specs.Slots.{stock};
 
-use crate::nodes::{Insertion, Nodes, is_same_fact};
+use crate::nodes::{Insertion, Nodes};
+use crate::recording::{is_target, needed_of, record_all, uses};
 use assumption_slots::Slots;
 use circuit_model::{Assumption, Fact};
 use environment_sets::Env;
@@ -41,22 +44,11 @@ pub struct Update {
     pub agenda: Agenda<Pending>,
 }
 
-// Whether the two are the same target.
-fn is_target(a: &Option<Fact>, b: &Option<Fact>) -> bool
-    ensures { result ≡ is_same_target a.now b.now }
-{
-    match (a, b) {
-        (None, None) => true,
-        (Some(x), Some(y)) => is_same_fact(x, y),
-        _ => false,
-    }
-}
-
-// Whether the fact is one that the inference goes from.
-fn uses(inferred: &Inferred, fact: &Fact) -> bool
-    ensures { result ≡ goes_from fact.now inferred.now }
-{
-    is_target(&inferred.first, &Some(*fact)) || is_target(&inferred.second, &Some(*fact))
+/// Where the last union was found to be covered: the places of a member of the label, and of a nogood.
+#[derive(Clone, Copy)]
+struct LastCovers {
+    member: usize,
+    nogood: usize,
 }
 
 // Each of the inferences that goes from the fact waits, with the environment.
@@ -76,17 +68,6 @@ fn wait_at_uses(
                 env: *env,
             })?;
         }
-    }
-    Ok(())
-}
-
-// After an error a front of what was found is recorded.
-fn record_all(recorded: &mut Vec<Inferred>, found: &[Inferred]) -> Result<(), AllocError>
-    ensures ok { IfOk result (λ _. recorded.new.items ≡ recorded.old.items ++ found.now) }
-    ensures partly { (k : ℕ) × (recorded.new.items ≡ recorded.old.items ++ take k found.now) }
-{
-    for inferred in found {
-        recorded.push(*inferred)?;
     }
     Ok(())
 }
@@ -185,14 +166,25 @@ fn made_by(maker: Option<u16>) -> Env
     }
 }
 
-// The union of the item's environment, another and the maker.
-fn union_of(item: &Pending, other: Env) -> Insertion
+// What all unions of the item have: its environment and the maker, at what the inference leads to.
+fn begun_union(item: &Pending) -> Insertion
     requires { IfSome item.now.inferred.maker (λ slot. slot < SLOTS) }
-    ensures { IsUnion item.now (members other) result }
+    ensures { BeginsUnions item.now result }
 {
     Insertion {
         target: item.inferred.to,
-        env: item.env.union(other).union(made_by(item.inferred.maker)),
+        env: item.env.union(made_by(item.inferred.maker)),
+    }
+}
+
+// The same with another environment too.
+fn union_with(begun: &Insertion, other: Env) -> Insertion
+    ensures target { result.target ≡ begun.now.target }
+    ensures joined { members result.env ≡ members begun.now.env ∪ members other }
+{
+    Insertion {
+        target: begun.target,
+        env: begun.env.union(other),
     }
 }
 
@@ -226,33 +218,101 @@ fn slots_fit(slots: &Slots)
     let _count = slots.count();
 }
 
-// The unions with each environment of the other fact's label are due.
+// The label of the target, if it is a fact that was met.
+fn label_at<'a>(nodes: &'a Nodes, target: &Option<Fact>) -> Option<&'a Label>
+    ensures { IfSome result (λ l. AreKeptAt nodes.now target.now l.now) }
+{
+    match target {
+        Some(fact) => nodes.label(fact),
+        None => None,
+    }
+}
+
+// Whether an environment of the target's label, or a nogood, is a subset of the union. Those that were found for the last
+// union are tried first, and the nogoods, which are few, before the label.
+fn is_covered(
+    nodes: &Nodes,
+    label: Option<&Label>,
+    union: &Insertion,
+    last: &mut LastCovers,
+) -> bool
+    requires { ForSome label (λ l. AreKeptAt nodes.now union.now.target l.now) }
+    ensures { IsTrue result → IsReached (KeptIn nodes.now) union.now.target (members union.now.env) }
+{
+    if let Some(label) = label {
+        if label.covers_at(&union.env, last.member) {
+            return true;
+        }
+    }
+    if nodes.nogoods.covers_from(&union.env, &mut last.nogood) {
+        return true;
+    }
+    match label {
+        Some(label) => label.covers_from(&union.env, &mut last.member),
+        None => false,
+    }
+}
+
+// The union is due, where it is not reached.
+fn add_union(
+    due: &mut Vec<Insertion>,
+    nodes: &Nodes,
+    label: Option<&Label>,
+    union: Insertion,
+    last: &mut LastCovers,
+) -> Result<(), AllocError>
+    requires { ForSome label (λ l. AreKeptAt nodes.now union.target l.now) }
+    ensures { IfOk result (λ _. IsAddedOrReached nodes.now union due.old.items due.new.items) }
+{
+    if is_covered(nodes, label, &union, last) {
+        return Ok(());
+    }
+    due.push(union)?;
+    Ok(())
+}
+
+// The unions with each environment of the other fact's label are due, where they are not reached. Where an environment of
+// the target's label lies in what they all have, each of them is reached: as where the fact was inferred by this very
+// component from what it leads back to.
 fn add_unions_with(
     due: &mut Vec<Insertion>,
+    nodes: &Nodes,
     label: &Label,
     item: &Pending,
 ) -> Result<(), AllocError>
     requires { IfSome item.now.inferred.maker (λ slot. slot < SLOTS) }
-    ensures { IfOk result (λ _. HasUnionsWith item.now label.now due.old.items due.new.items) }
+    ensures { IfOk result (λ _. HasUnionsWith item.now nodes.now label.now due.old.items due.new.items) }
 {
+    let begun = begun_union(item);
+    let target = label_at(nodes, &begun.target);
+    let mut last = LastCovers {
+        member: 0,
+        nogood: 0,
+    };
+    if let Some(kept) = target {
+        if kept.covers_from(&begun.env, &mut last.member) {
+            return Ok(());
+        }
+    }
     for env in label.members() {
-        due.push(union_of(item, *env))?;
+        let union = union_with(&begun, *env);
+        add_union(due, nodes, target, union, &mut last)?;
     }
     Ok(())
 }
 
-// The unions of the item with what is kept at the other fact, if there is one, are due.
+// The unions of the item with what is kept at the other fact, if there is one, are due, where they are not reached.
 fn add_unions(due: &mut Vec<Insertion>, nodes: &Nodes, item: &Pending) -> Result<(), AllocError>
     requires { IfSome item.now.inferred.maker (λ slot. slot < SLOTS) }
     ensures { IfOk result (λ _. HasUnions item.now nodes.now due.old.items due.new.items) }
 {
     match other_of(&item.inferred, &item.at) {
         None => {
-            due.push(union_of(item, Env::empty()))?;
+            due.push(union_with(&begun_union(item), Env::empty()))?;
             Ok(())
         }
         Some(fact) => match nodes.label(&fact) {
-            Some(label) => add_unions_with(due, label, item),
+            Some(label) => add_unions_with(due, nodes, label, item),
             None => Ok(()),
         },
     }
@@ -295,7 +355,7 @@ fn drop_stale(recorded: &mut Vec<Inferred>, nodes: &Nodes, slot: u16)
 }
 
 impl Update {
-    // The fact is met, which it was not: the inferences that use it are recorded.
+    // The fact is met, which it was not: of the inferences that use it, those that are needed are recorded.
     fn meet(&mut self, alloc: Global, slots: &Slots, fact: &Fact) -> Result<(), AllocError>
         requires { IsMet self.old.nodes.list.items fact.now → ⊥ }
         ensures ok { IfOk result (λ _. HasMet slots.now fact.now self.old self.new) }
@@ -304,7 +364,8 @@ impl Update {
     {
         let met = self.nodes.met(alloc)?;
         let found = find_uses(alloc, slots, &met, *fact)?;
-        record_all(&mut self.recorded, &found)?;
+        let needed = needed_of(alloc, &self.recorded, &found)?;
+        record_all(&mut self.recorded, &needed)?;
         self.nodes.meet(alloc, fact)
     }
 
@@ -423,8 +484,8 @@ impl Update {
         Ok(())
     }
 
-    // A component begins: its inferences are recorded. What they lead to from no fact is due, and the others wait at each
-    // environment of one of their facts.
+    // A component begins: of its inferences, those that are needed are recorded. What they lead to from no fact is due, and
+    // the others wait at each environment of one of their facts.
     fn begin_part(&mut self, alloc: Global, slots: &Slots) -> Result<(), AllocError>
         requires below { self.old.slot < SLOTS }
         requires works { (part : List Instance) × (stock slots.now self.old.slot ≡ Some (Part part)) }
@@ -434,10 +495,11 @@ impl Update {
     {
         let met = self.nodes.met(alloc)?;
         let found = find_made_by(alloc, slots, &met, self.slot)?;
-        record_all(&mut self.recorded, &found)?;
+        let needed = needed_of(alloc, &self.recorded, &found)?;
+        record_all(&mut self.recorded, &needed)?;
         let env = made_by(Some(self.slot));
-        due_from_none(&mut self.due, &found, &env)?;
-        wait_at_each(&mut self.agenda, &self.nodes, &found)
+        due_from_none(&mut self.due, &needed, &env)?;
+        wait_at_each(&mut self.agenda, &self.nodes, &needed)
     }
 
     // The assumption at the slot begins.

@@ -1,37 +1,5 @@
-use Rattle.std.proofs.Common.{rules, true≢false, sym, ◌∙◌, List, subst}
-use Rattle.std.proofs.lemmas.Fn.{filter_same}
-use Rattle.environment_sets.specs.declared.environment.Env.{Env}
-use Rattle.environment_sets.specs.Members.{members, HasMember}
-use Rattle.environment_sets.specs.Families.{IsCovered, IsAntichain, Adds}
-use Rattle.antichains.proofs.Changes.{leaves_out, IsLeft, adds-left, antichain-added, ListsAntichain}
+use Rattle.std.proofs.Common.{true≢false, sym, ◌∙◌}
 use Rattle.antichains.proofs.antichain.Antichain.insert.Goals as goal
 
-left : (c : goal.In-Ok) → IsLeft (leaves_out c.args.env) c.self.inside.list.items c.retain.new.self.items
-left c =
-    let P : List Env → Type 0 = λ old. IsLeft (leaves_out c.args.env) old c.retain.new.self.items in
-    subst P c.reserve.ensures.items (record { filtered = filter_same _ (λ (e : Env). leaves_out c.args.env (members e)) _ (λ x b q k. search rules) _ _ c.retain.ensures.filtered })
-
-pub invariant_of-self-2 : goal.invariant_of-self-2
-invariant_of-self-2 c =
-    let old = c.self.inside.list.items in
-    let P : List Env → Type 0 = λ es. IsCovered (HasMember es) (members c.args.env) → ⊥ in
-    let uncovered : IsCovered (HasMember c.args.self.now) (members c.args.env) → ⊥ = λ covered. true≢false (sym (c.covers.ensures.1 covered) ∙ c.if-covers.false) in
-    antichain-added c.args.env old c.retain.new.self.items c.push.new.self.items (left c) c.in-Ok.ensures.items (subst P (sym c.self.view_is) uncovered) c.self.invariant
-
-pub returns-clause-added : goal.returns-clause-added
-returns-clause-added c = λ _.
-    let new = c.push.new.self.items in
-    let P : List Env → Type 0 = λ old. Adds (HasMember old) (HasMember new) (members c.args.env) in
-    subst P c.self.view_is (adds-left c.args.env c.self.inside.list.items c.retain.new.self.items new (left c) c.in-Ok.ensures.items)
-
-pub returns-clause-antichain : goal.returns-clause-antichain
-returns-clause-antichain c = (invariant_of-self-2 c).1
-
-pub invariant_of-self : goal.invariant_of-self
-invariant_of-self c = subst ListsAntichain (sym c.reserve.ensures.items) c.self.invariant
-
-pub returns-in_err-reserve-clause-antichain : goal.returns-in_err-reserve-clause-antichain
-returns-in_err-reserve-clause-antichain c = (invariant_of-self c).1
-
-pub returns-then-covers-clause-antichain : goal.returns-then-covers-clause-antichain
-returns-then-covers-clause-antichain c = let P : List Env → Type 0 = λ es. IsAntichain (HasMember es) in subst P c.self.view_is c.self.invariant.1
+pub add-requires : goal.add-requires
+add-requires c = λ covered. true≢false (sym (c.is_covered.ensures.covered.1 covered) ∙ c.if-is_covered.false)

@@ -1,5 +1,4 @@
 use Rattle.std.proofs.Common.{rules, tests, subst, List}
-use Rattle.std.specs.List.{filter}
 use Rattle.std.proofs.lemmas.Iterator.{YieldsList-from_slice, items_from_collect}
 use Rattle.std.proofs.lemmas.Iterator.Consumers.{YieldsList-from_filter, YieldsList-from_copied}
 use Rattle.std.proofs.lemmas.Result.{IfOk-weaker}
@@ -7,7 +6,7 @@ use Rattle.environment_sets.specs.declared.environment.Env.{Env}
 use Rattle.environment_sets.specs.declared.environment.TheConstants.{SLOTS}
 use Rattle.environment_sets.specs.Lists.{IsRoster}
 use Rattle.environment_sets.specs.Members.{members, sets, HasMember}
-use Rattle.environment_sets.specs.Sets.{Set, ◌⊆◌, is_within}
+use Rattle.environment_sets.specs.Sets.{◌⊆◌, is_within}
 use Rattle.antichains.proofs.Changes.{roster-left}
 use Rattle.antichains.proofs.antichain.Antichain.inside.Goals as goal
 

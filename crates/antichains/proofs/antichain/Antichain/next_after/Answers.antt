@@ -1,19 +1,19 @@
-use Rattle.std.proofs.Common.{◌+◌, List, take, Option, true≢false, sym, subst, ◌∙◌}
+use Rattle.std.proofs.Common.{◌+◌, List, take, Option, sym, subst, ◌∙◌}
 use Rattle.std.specs.Option.{option_map, option_copied}
 use Rattle.std.proofs.lemmas.List.{take_all}
 use Rattle.environment_sets.specs.declared.environment.Env.{Env}
 use Rattle.environment_sets.specs.declared.environment.TheConstants.{SLOTS}
 use Rattle.environment_sets.specs.Members.{members, HasMember}
 use Rattle.environment_sets.specs.Walks.{GivesNext}
-use Rattle.antichains.proofs.Nearer.{none_found, next_stays, next_first, found_listed, falls}
+use Rattle.antichains.proofs.Nearer.{none_found, next_nearer, next_passed, found_listed, falls}
 use Rattle.antichains.proofs.antichain.Antichain.next_after.Goals as goal
-use Rattle.antichains.proofs.antichain.Antichain.next_after.Goals.{then-is_further, else-is_further}
+use Rattle.antichains.proofs.antichain.Antichain.next_after.Goals.{then-is_nearer, else-is_nearer}
 
 pub loop-member-init : goal.loop-member-init
 loop-member-init c = none_found c.args.order.now (members c.args.mask.now) (option_map members (option_copied c.args.last))
 
-pub first_of-requires-clause-found_listed : goal.first_of-requires-clause-found_listed
-first_of-requires-clause-found_listed c =
+pub is_nearer-requires-clause-found_listed : goal.is_nearer-requires-clause-found_listed
+is_nearer-requires-clause-found_listed c =
     found_listed c.args.order.now _ (members c.args.mask.now) (option_map members (option_copied c.args.last)) c.loop-member.next c.requires.mask_listed c.loop-member.invariant
 
 pub loop-member-preserved : goal.loop-member-preserved
@@ -25,11 +25,9 @@ loop-member-preserved c =
     let i = c.loop-member.member-index in
     let next = option_map members c.loop-member.next in
     let P : Option Env → Type 0 = λ n. GivesNext order (HasMember (take (i + 1) list)) mask last (option_map members n) in
-    elim c.if-is_further.branch [
-      | then-is_further w ↦
-          subst P (sym w.next-is) (next_first order mask last list i c.member-item.result c.loop-member-test.true c.member-item.is next (members w.first_of.result) c.requires.mask_listed (c.is_further.ensures.0 w.if-is_further.true) w.first_of.ensures c.loop-member.invariant)
-      | else-is_further w ↦
-          subst P (sym w.next-is) (next_stays order mask last list i c.member-item.result c.loop-member-test.true c.member-item.is next (λ further. true≢false (sym (c.is_further.ensures.1 further) ∙ w.if-is_further.false)) c.loop-member.invariant)
+    elim c.if-is_nearer.branch [
+      | then-is_nearer w ↦ subst P (sym w.next-is) (next_nearer order mask last list i c.member-item.result c.loop-member-test.true c.member-item.is next c.requires.mask_listed w.if-is_nearer.ensures c.loop-member.invariant)
+      | else-is_nearer w ↦ subst P (sym w.next-is) (next_passed order mask last list i c.member-item.result c.loop-member-test.true c.member-item.is next w.if-is_nearer.ensures c.loop-member.invariant)
     ]
 
 pub returns-clause-next : goal.returns-clause-next

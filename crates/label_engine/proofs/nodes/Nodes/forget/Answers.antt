@@ -1,4 +1,4 @@
-use Rattle.std.proofs.Common.{IsTrue, ◌∙◌, subst, List, length, arith}
+use Rattle.std.proofs.Common.{IsTrue, subst, List, arith}
 use Rattle.std.proofs.lemmas.List.{take_all}
 use Rattle.label_engine.specs.declared.nodes.Node.{Node}
 use Rattle.label_engine.specs.Nodes.{EachDrops}

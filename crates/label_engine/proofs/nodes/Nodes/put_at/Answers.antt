@@ -1,11 +1,12 @@
-use Rattle.std.proofs.Common.{◌≡◌, position, Some, refl, sym, ap, inl, ◌∙◌}
+use Rattle.std.proofs.Common.{◌≡◌, position, Some, refl, sym, ap, subst, inl, ◌∙◌}
 use Rattle.std.proofs.Math.Seq.{map-set_same}
-use Rattle.environment_sets.specs.Members.{members}
+use Rattle.environment_sets.specs.Members.{members, HasMember}
+use Rattle.environment_sets.specs.Families.{IsCovered}
 use Rattle.std.specs.Vec.{with_item}
 use Rattle.label_engine.specs.declared.nodes.Node.{Node}
 use Rattle.label_engine.specs.declared.nodes.Nodes.{Nodes}
 use Rattle.label_engine.proofs.Labelled.{is_at, met_has_place, label_at}
-use Rattle.label_engine.proofs.Changed.{inserted, put_in_place}
+use Rattle.label_engine.proofs.Changed.{put_in_place}
 use Rattle.label_engine.proofs.nodes.Nodes.put_at.Goals as goal
 
 pub unwrap-place-requires : goal.unwrap-place-requires
@@ -14,11 +15,18 @@ unwrap-place-requires c = rw (c.place_of.ensures, c.deref.ensures.value) (met_ha
 pub returns-clause-ok : goal.returns-clause-ok
 returns-clause-ok c =
     let place : position (is_at c.args.fact.now) c.args.self.now.list.items ≡ Some c.unwrap-place.result = rw (← c.deref.ensures.value) (sym c.place_of.ensures ∙ c.unwrap-place.ensures) in
-    let node : Node = record { fact = c.index_mut-node.result.now.fact; label = c.insert.new.self } in
+    let node : Node = record { fact = c.index_mut-node.result.now.fact; label = c.add.new.self } in
     let label = label_at c.args.self.now.list.items c.args.fact.now c.unwrap-place.result c.index_mut-node.result.now place in
     let new : Nodes = record { list = with_item c.args.self.now.list c.unwrap-place.result node; nogoods = c.args.self.now.nogoods } in
     put_in_place c.args.self.now new c.args.env.now c.args.fact.now c.unwrap-place.result c.index_mut-node.result.now node place (ap (λ (n : Node). n.fact) c.index_mut-node.ensures.value) refl refl
-    (inserted c.insert.result c.in_ok-insert.field-0 _ c.insert.new.self (members c.args.env.now) c.in_ok-insert.was (rw (← c.index_mut-node.ensures.value) c.insert.ensures.covered.0) (rw (← c.index_mut-node.ensures.value) c.insert.ensures.added) (λ covers. c.requires.out (inl (rw label covers))))
+    (rw (← c.index_mut-node.ensures.value) c.in_ok-add.ensures.added)
 
 pub returns-clause-facts : goal.returns-clause-facts
 returns-clause-facts c = map-set_same (λ (n : Node). n.fact) c.args.self.now.list.items c.unwrap-place.result _ c.index_mut-node.result.now (ap (λ (n : Node). n.fact) c.index_mut-node.ensures.value)
+
+pub add-requires : goal.add-requires
+add-requires c =
+    let place : position (is_at c.args.fact.now) c.args.self.now.list.items ≡ Some c.unwrap-place.result = rw (← c.deref.ensures.value) (sym c.place_of.ensures ∙ c.unwrap-place.ensures) in
+    let label = label_at c.args.self.now.list.items c.args.fact.now c.unwrap-place.result c.index_mut-node.result.now place in
+    let P : Node → Type 0 = λ n. IsCovered (HasMember n.label) (members c.args.env.now) in
+    λ covers. c.requires.out (inl (rw label (subst P c.index_mut-node.ensures.value covers)))
