@@ -1,6 +1,4 @@
 // Derivations as texts.
-ghost use Rattle.answer_text.specs.Labels.{StandsForPresent};
-
 use answer_text::{valid_derivations_can_be_written, write_derivation};
 use bench_io::MemorySink;
 use circuit_model::{Cell, Fact, Present};
@@ -58,15 +56,13 @@ fn write_checked(
     derivation: &Derivation,
     goal: Goal,
     sink: &mut MemorySink,
-) -> Result<(), Fail>
-    requires { StandsForPresent standing.now present.now }
-{
+) -> Result<(), Fail> {
     valid_derivations_can_be_written();
     let _parts = present.parts();
     let mask = standing.mask();
     let all = chosen(alloc, standing, &mask)?;
     if check(derivation, present, &all, goal) {
-        write_derivation(present, standing, &mask, derivation, sink)?;
+        write_derivation(present, &all, derivation, sink)?;
         return Ok(());
     }
     Err("no derivation of the goal".into())
