@@ -5,6 +5,7 @@ use Rattle.std.proofs.lemmas.Bool.{cases_eq, false≢true}
 use Rattle.std.proofs.lemmas.Option.{slice_get-map, slice_get_within}
 use Rattle.environment_sets.specs.Sets.{Set}
 use Rattle.environment_sets.specs.Lists.{IsIn}
+use Rattle.circuit_model.specs.declared.model.Cell.{Cell}
 use Rattle.circuit_model.specs.declared.model.Fact.{Fact}
 use Rattle.circuit_model.specs.declared.model.Instance.{Instance}
 use Rattle.circuit_model.specs.declared.present.Component.{Component}
@@ -18,7 +19,7 @@ use Rattle.proof_check.specs.declared.derivation.Ending.{Ending}
 use Rattle.proof_check.specs.declared.derivation.Ending.TheVariants as endings
 use Rattle.proof_check.specs.Written.{ending_of}
 use Rattle.proof_check.specs.Checking.{IsInstanceOf, IsPlaced}
-use Rattle.proof_check.specs.Rounds.{AreCalm, IsReady, IsForcedAt, IsQuietAt, IsRefutedAt, IsForcedBefore, AreLookedAt, from_here, IsFirstClash, Looks, IsQuietBut, AreElsewhere}
+use Rattle.proof_check.specs.Rounds.{AreCalm, IsReady, IsForcedAt, IsQuietAt, IsRefutedAt, IsForcedBefore, AreLookedAt, from_here, IsFirstClash, Looks, IsQuietBut, AreElsewhere, IsAtSome}
 use Rattle.proof_check.specs.Ordered.{IsFirstPair}
 use Rattle.proof_check.specs.Turns.{AreForced, IsClashOfFacts}
 use Rattle.proof_check.proofs.Told.{facts_at-there}
@@ -317,3 +318,8 @@ pair_clash s E held (endings.Refuted part instance ports from) h = absurd h
 pub pair_clash_at : (s : PresentView) (E : Set Place) (held : List Fact) (A B : Type 0) (clash : Option Ending) → is_some clash ≡ true → MatchOption clash A (IsFirstPair (λ f. IsIn held f)) → MatchOption clash B (λ ending. IsClashOfFacts s E held (ending_of ending))
 pair_clash_at s E held A B None is h = absurd (false≢true is)
 pair_clash_at s E held A B (Some ending) is h = pair_clash s E held ending h
+
+-- a fact at one of the cells
+pub some_at : (facts : List Fact) (cells : List Cell) (port : ℕ) (c : Cell) → slice_get cells port ≡ Some c → (word : Option ℕ) → is_some word ≡ true → MatchOption word ((v : ℕ) → IsIn facts (fact c v) → ⊥) (λ v. IsIn facts (fact c v)) → IsAtSome facts cells
+some_at facts cells port c at None is h = absurd (false≢true is)
+some_at facts cells port c at (Some v) is h = record { port = port; cell = c; word = v; at = at; there = h }

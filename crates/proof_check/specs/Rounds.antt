@@ -115,6 +115,14 @@ pub record IsQuietBut (s : PresentView) (E : Set Place) (held fresh : List Fact)
 abbrev pub AreElsewhere : List Fact → List Cell → Type 0
 AreElsewhere facts cells = (port v : ℕ) (c : Cell) → slice_get cells port ≡ Some c → IsIn facts (fact c v) → ⊥
 
+-- some fact is at one of the cells
+pub record IsAtSome (facts : List Fact) (cells : List Cell) : Type 0 where
+  pub port : ℕ
+  pub cell : Cell
+  pub word : ℕ
+  pub at : slice_get cells port ≡ Some cell
+  pub there : IsIn facts (fact cell word)
+
 -- some justification before this one forces the fact from what is held
 abbrev pub IsForcedBefore : PresentView → Set Place → List Fact → Justification → Fact → Type 0
 IsForcedBefore s E held next f = (j : Justification) × IsJustificationBefore j next × Justifies (circuit_of s) E (IsIn held) f j

@@ -1,9 +1,9 @@
 // Looking at all inferences from what is held, one after another.
 
-ghost use Rattle.std.specs.Prelude.{◌≡◌, ◌+◌, ◌<◌, [], false, IfOk, length};
+ghost use Rattle.std.specs.Prelude.{◌≡◌, ◌+◌, ◌<◌, [], true, false, IfOk, length};
 ghost use Rattle.circuit_model.specs.Chosen.{chosen_places};
 ghost use Rattle.proof_check.specs.Checking.{IsInstanceOf, IsPlaced};
-ghost use Rattle.proof_check.specs.Rounds.{AreCalm, AreElsewhere, AreLookedAt, AreWordsOf, IsQuietBut, Looks, from_here};
+ghost use Rattle.proof_check.specs.Rounds.{AreCalm, AreElsewhere, AreLookedAt, AreWordsOf, IsAtSome, IsQuietBut, Looks, from_here};
 
 use crate::derivation::Ending;
 use crate::facts::Facts;
@@ -94,7 +94,8 @@ fn look_at_instance(
 
 /// Whether one of the facts is at one of the cells.
 fn are_at_some(facts: &Facts, cells: &[Cell; 3]) -> bool
-    ensures { result ≡ false → AreElsewhere facts.now cells.now }
+    ensures none { result ≡ false → AreElsewhere facts.now cells.now }
+    ensures some { result ≡ true → IsAtSome facts.now cells.now }
 {
     for port in 0..3 {
         if facts.word_at(cells[port]).is_some() {
