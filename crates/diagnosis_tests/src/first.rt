@@ -1,7 +1,8 @@
 // The first diagnoses of polyboxes, of rows of them and of conflicts that share no slot.
-ghost use Rattle.std.specs.Prelude.{◌<◌, ◌≤◌};
+ghost use Rattle.std.specs.Prelude.{◌≡◌, ◌<◌, ◌≤◌, IfOk, length};
 
 use crate::tests::{all_slots, are_same, costs_of, diagnosed, of, polyboxes};
+use diagnosis_order::{DiagnosisStop, diagnoses};
 use environment_sets::Env;
 use first_diagnoses::first;
 use hitting_sets::Hitter;
@@ -111,5 +112,71 @@ fn the_first_of_thirty_triples(rt: HostRuntime) -> Result<(), Fail> {
     assert_eq!(rt; found[0].size(), 30);
     assert!(rt; found[8].has(81) && !found[9].has(81) && found[9].has(82));
     assert_eq!(rt; firsts(rt.alloc(), &conflicts, &[2, 44], 1000)?.len(), 1000);
+    Ok(())
+}
+
+// So many conflicts of three slots that share slots with others, of so many slots.
+fn overlapping(alloc: Global, conflicts: u16, slots: u16) -> Result<Vec<Env>, AllocError>
+    requires few { conflicts < 100 }
+    requires some { 0 < slots }
+{
+    let mut listed = Vec::new(alloc);
+    for i in 0..conflicts {
+        listed.push(of(&[i % slots, (i + 7) % slots, (i + 13) % slots]))?;
+    }
+    Ok(listed)
+}
+
+// A cost from 1 to 40 for each slot of the order.
+fn varied_costs(alloc: Global, order: &[u16]) -> Result<Vec<u8>, AllocError>
+    ensures { IfOk result (λ costs. length costs.items ≡ length order.now) }
+{
+    let mut costs = Vec::new(alloc);
+    for slot in order {
+        costs.push((slot.wrapping_mul(40503) % 40) as u8 + 1)?;
+    }
+    Ok(costs)
+}
+
+// The first diagnoses in the order of slots, which cost from 1 to 40.
+fn firsts_by_cost(alloc: Global, conflicts: &[Env], k: usize) -> Result<Vec<Env>, AllocError> {
+    let order = all_slots(alloc)?;
+    let costs = varied_costs(alloc, &order)?;
+    first(alloc, conflicts, &costs, &order, k)
+}
+
+// All diagnoses in that order.
+fn all_by_cost(alloc: Global, conflicts: &[Env]) -> Result<Vec<Env>, DiagnosisStop> {
+    let Ok(order) = all_slots(alloc) else {
+        return Err(DiagnosisStop::OutOfMemory);
+    };
+    let Ok(costs) = varied_costs(alloc, &order) else {
+        return Err(DiagnosisStop::OutOfMemory);
+    };
+    let mut hitter = Hitter::open(alloc);
+    diagnoses(alloc, &mut hitter, conflicts, &order, &costs)
+}
+
+#[test]
+fn fronts_of_overlapping_triples(rt: HostRuntime) -> Result<(), Fail> {
+    let conflicts = overlapping(rt.alloc(), 8, 16)?;
+    let Ok(all) = all_by_cost(rt.alloc(), &conflicts) else {
+        return Err("the diagnoses are not listed".into());
+    };
+    for k in [1, 10, 40] {
+        assert!(rt; all.len() > k);
+        assert!(rt;
+            are_same(&firsts_by_cost(rt.alloc(), &conflicts, k)?, &all[..k]),
+            "first {k}"
+        );
+    }
+    assert!(rt; are_same(&firsts_by_cost(rt.alloc(), &conflicts, 1000)?, &all));
+    Ok(())
+}
+
+#[test]
+fn the_first_of_thirty_overlapping_triples(rt: HostRuntime) -> Result<(), Fail> {
+    let conflicts = overlapping(rt.alloc(), 30, 60)?;
+    assert_eq!(rt; firsts_by_cost(rt.alloc(), &conflicts, 10)?.len(), 10);
     Ok(())
 }

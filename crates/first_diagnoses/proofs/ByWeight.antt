@@ -1,5 +1,5 @@
 -- Rounds by rising weight.
-use Rattle.std.proofs.Common.{◌≡◌, ℕ, ◌+◌, ◌-◌, ◌^◌, ◌<◌, ◌≤◌, inl, inr, Option, Some, None, List, [], length, sym, ap, subst, ◌∙◌, arith}
+use Rattle.std.proofs.Common.{◌≡◌, ◌⊎◌, ℕ, ◌+◌, ◌-◌, ◌^◌, ◌<◌, ◌≤◌, inl, inr, Option, Some, None, List, [], ◌∷◌, length, refl, sym, ap, subst, ◌∙◌, arith}
 use Rattle.std.proofs.lemmas.Bool.{cases_lt}
 use Rattle.std.proofs.lemmas.List.{length-map, map-append}
 use Rattle.environment_sets.specs.declared.environment.Env.{Env}
@@ -12,8 +12,10 @@ use Rattle.first_diagnoses.specs.declared.problem.Problem.{Problem}
 use Rattle.first_diagnoses.specs.First.{AreFirst}
 use Rattle.first_diagnoses.specs.Weights.{weight_in}
 use Rattle.first_diagnoses.specs.Branches.{IsSought}
-use Rattle.first_diagnoses.specs.Rounds.{ComesFirst, ComesByWeight, IsOfRound, AddsFirst, IsNextWeight}
-use Rattle.first_diagnoses.proofs.Firsts.{first_append, first_map}
+use Rattle.first_diagnoses.specs.declared.waiting.Waiting.{Waiting}
+use Rattle.first_diagnoses.specs.Rounds.{ComesFirst, ComesByWeight, IsOfRound, AddsFirst}
+use Rattle.first_diagnoses.specs.Waits.{IsWaiting, AreWaiting, IsSoughtIn, IsOfRoundIn, AreHeavier, IsLeastOf}
+use Rattle.first_diagnoses.proofs.Firsts.{first_append, first_map, adds_map}
 
 -- the set weighs less than the next weight, if there is one
 abbrev pub IsLighter : Problem → Option ℕ → Set ℕ → Type 0
@@ -23,6 +25,16 @@ IsLighter p (Some next) D = weight_in p D < next
 -- the environments are the minimal hitting sets that weigh less than the next weight
 abbrev pub AreLighter : Problem → Option ℕ → List Env → Type 0
 AreLighter p next es = IsListing (ComesByWeight p) (λ D. IsMinimalFor p.conflicts.now D × IsLighter p next D) (sets es)
+
+-- no sought set has a weight between this one and the next one, and none is heavier where there is no next one
+abbrev pub IsNextWeight : Problem → Branch → ℕ → Option ℕ → Type 0
+IsNextWeight p b weight None = (D : Set ℕ) → IsSought p b D → weight_in p D ≤ weight
+IsNextWeight p b weight (Some next) = (weight < next) × ((D : Set ℕ) → IsSought p b D → (weight_in p D ≤ weight) ⊎ (next ≤ weight_in p D))
+
+-- the minimal hitting sets that do not weigh less than the next weight wait in the branches
+pub record WaitFor (p : Problem) (next : Option ℕ) (waiting : List Waiting) : Type 0 where
+  pub branches : AreWaiting p waiting
+  pub others : (D : Set ℕ) → IsMinimalFor p.conflicts.now D → IsLighter p next D ⊎ IsSoughtIn p waiting D
 
 -- how many weights may come next
 abbrev pub weights_left : Option ℕ → ℕ
@@ -113,3 +125,46 @@ module _ (p : Problem) where
             λ h. all_reached fewer D (h.0, elim (between.1 D (sought D h.0)) [ inl low ↦ low | inr high ↦ let less : weight_in p D < next = h.1 in absurd (omega arith) ]),
           );
         }
+
+-- at first all sets wait in one branch
+pub all_wait : (p : Problem) (w : Waiting) → IsWaiting p w → ((D : Set ℕ) → IsMinimalFor p.conflicts.now D → IsSought p w.branch D) → WaitFor p (Some 0) (w ∷ [])
+all_wait p w is has =
+    record {
+      branches = record { each = λ v h. elim h [ inl same ↦ subst (IsWaiting p) same is | inr bad ↦ absurd bad ]; rising = (λ v h. absurd h, tt) };
+      others = λ D minimal. inr (w, inl refl, has D minimal);
+    }
+
+-- what waits after a round
+module _ (p : Problem) (all : Branch) (sought : (D : Set ℕ) → IsMinimalFor p.conflicts.now D → IsSought p all D) where
+  module _ (weight : ℕ) (waiting : List Waiting) (wait : WaitFor p (Some weight) waiting) where
+    -- the sets of a round that wait are all sets of the round
+    pub all_of_round : (limit : ℕ) (old new : List Env) → AddsFirst p (IsOfRoundIn p waiting weight) limit old new → AddsFirst p (IsOfRound p all weight) limit old new
+    all_of_round limit old new adds =
+        adds_map p (IsOfRoundIn p waiting weight) limit (IsOfRound p all weight) old new
+        (λ D h. (sought D h.0.2.minimal, h.1))
+        (λ D h. elim (wait.others D h.0.minimal) [ inl low ↦ let less : weight_in p D < weight = low in let here : weight_in p D ≡ weight = h.1 in absurd (omega arith) | inr there ↦ (there, h.1) ])
+        adds
+
+    module _ (later : List Waiting) (left : AreHeavier p (IsSoughtIn p waiting) weight later) where
+      still : (D : Set ℕ) → IsMinimalFor p.conflicts.now D → (weight_in p D ≤ weight) ⊎ IsSoughtIn p later D
+      still D minimal = elim (wait.others D minimal) [ inl low ↦ let less : weight_in p D < weight = low in inl (omega arith) | inr there ↦ left.others D there ]
+
+      pub next_waits : (next : Option ℕ) → IsLeastOf later next → IsNextWeight p all weight next
+      next_waits None none = λ D is. elim (still D is.minimal) [ inl low ↦ low | inr (w, h, there) ↦ absurd (subst (λ (ws : List Waiting). IsIn ws w) none h) ]
+      next_waits (Some next) (some, each) = (
+        subst (λ (m : ℕ). weight < m) some.2 (left.heavier some.0 some.1),
+        λ D is. elim (still D is.minimal) [
+          | inl low ↦ inl low
+          | inr (w, h, there) ↦
+              let bound : w.least ≤ weight_in p D = (left.branches.each w h).bound D there in
+              inr (omega (arith, each w h))
+        ],
+      )
+
+      pub wait_on : (next : Option ℕ) → IsNextWeight p all weight next → WaitFor p next later
+      wait_on None none = record { branches = left.branches; others = λ D minimal. inl tt }
+      wait_on (Some next) between =
+          record {
+            branches = left.branches;
+            others = λ D minimal. elim (still D minimal) [ inl low ↦ inl (omega (arith, between.0)) | inr there ↦ inr there ];
+          }

@@ -87,6 +87,19 @@ module _ (p : Problem) (P : Set ℕ → Type 0) (limit : ℕ) where
   pub adds_one : (old new : List Env) (e : Env) → length old < limit → new ≡ old ++ e ∷ [] → P (members e) → ((D : Set ℕ) → P D → members e ≡ D) → AddsFirst p P limit old new
   adds_one old new e room pushed is only = record { added = e ∷ []; appended = pushed; first = first_one (ComesFirst p) P (limit - length old) (members e) (omega arith) is only }
 
+  pub adds_map : (Q : Set ℕ → Type 0) (old new : List Env) → ((D : Set ℕ) → P D → Q D) → ((D : Set ℕ) → Q D → P D) → AddsFirst p P limit old new → AddsFirst p Q limit old new
+  adds_map Q old new to from a =
+      record {
+        added = a.added;
+        appended = a.appended;
+        first = record {
+          rising = a.first.rising;
+          sound = λ D h. to D (a.first.sound D h);
+          few = a.first.few;
+          others = λ D h. a.first.others D (from D h);
+        };
+      }
+
   pub adds_append : (Q R : Set ℕ → Type 0) (old mid new : List Env) → length old ≤ limit → AddsFirst p P limit old mid → AddsFirst p Q limit mid new → ((D E : Set ℕ) → P D → Q E → ComesFirst p D E) → ((D : Set ℕ) → P D → R D) → ((D : Set ℕ) → Q D → R D) → ((D : Set ℕ) → R D → P D ⊎ Q D) → AddsFirst p R limit old new
   adds_append Q R old mid new room a b across left right parts =
       let grown : length mid ≡ length old + length a.added = ap length a.appended ∙ length-append old a.added in

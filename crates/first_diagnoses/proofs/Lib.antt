@@ -4,5 +4,6 @@ pub mod Bounding
 pub mod Firsts
 pub mod Looking
 pub mod Splitting
+pub mod Waits
 pub mod ByWeight
 pub mod ByCost

@@ -1,5 +1,5 @@
 -- A branch, and its two parts: the sets with the slot at its place, and the sets without it.
-use Rattle.std.proofs.Common.{◌≡◌, ℕ, zero, suc, ◌<◌, ◌≤◌, ◌⊎◌, inl, inr, Bool, true, false, not, ◌&&◌, cond, IsTrue, ◌↔◌, Option, Some, None, Ordering, Less, Greater, List, [], ◌∷◌, length, get_or, take, refl, sym, ◌∙◌, arith}
+use Rattle.std.proofs.Common.{◌≡◌, ℕ, zero, suc, ◌<◌, ◌≤◌, ◌⊎◌, inl, inr, Bool, true, false, not, ◌&&◌, cond, IsTrue, ◌↔◌, Ordering, Less, Greater, List, [], ◌∷◌, length, get_or, take, refl, sym, ◌∙◌, arith}
 use Rattle.std.proofs.lemmas.Bool.{or_cases, cases_Bool, true≢false, false≢true, false_from_ne_true}
 use Rattle.environment_sets.specs.declared.environment.Env.{Env}
 use Rattle.environment_sets.specs.Sets.{Set}
@@ -11,9 +11,12 @@ use Rattle.first_diagnoses.specs.declared.branch.Branch.{Branch}
 use Rattle.first_diagnoses.specs.declared.problem.Problem.{Problem}
 use Rattle.first_diagnoses.specs.Weights.{weight_in, IsProblem}
 use Rattle.first_diagnoses.specs.Branches.{IsBranch, IsSought}
-use Rattle.first_diagnoses.specs.Rounds.{ComesFirst, IsOfRound, AddsFirst, IsNextWeight, lesser_of}
+use Rattle.first_diagnoses.specs.Rounds.{ComesFirst, IsOfRound, AddsFirst}
+use Rattle.first_diagnoses.specs.declared.waiting.Waiting.{Waiting}
+use Rattle.first_diagnoses.specs.Waits.{AddsHeavier}
 use Rattle.first_diagnoses.proofs.Branching.{parted_at}
 use Rattle.first_diagnoses.proofs.Firsts.{adds_zero, adds_append}
+use Rattle.first_diagnoses.proofs.Waits.{adds_heavier_append}
 
 -- of two sets that agree up to a place, the one with the name there comes first
 by_first_at : (order : List ℕ) (i : ℕ) (D E : Set ℕ) → i < length order → ((k : ℕ) → IsIn (take i order) k → D k ≡ E k) → D (get_or order i 0) ≡ true → E (get_or order i 0) ≡ false → by_first order D E ≡ Less
@@ -85,14 +88,11 @@ module _ (p : Problem) (is : IsProblem p) (b : Branch) (branch : IsBranch p b) (
           (λ D h. (((lacks D).0 h.0).0, h.1))
           (λ D h. elim (either D h.0) [ inl k ↦ inl (k, h.1) | inr k ↦ inr (k, h.1) ])
 
-      pub next_of_parts : (weight : ℕ) (left right : Option ℕ) → IsNextWeight p with weight left → IsNextWeight p without weight right → IsNextWeight p b weight (lesser_of left right)
-      next_of_parts weight None None l r = λ D sought. elim (either D sought) [ inl h ↦ l D h | inr h ↦ r D h ]
-      next_of_parts weight None (Some m) l r = (r.0, λ D sought. elim (either D sought) [ inl h ↦ inl (l D h) | inr h ↦ r.1 D h ])
-      next_of_parts weight (Some n) None l r = (l.0, λ D sought. elim (either D sought) [ inl h ↦ l.1 D h | inr h ↦ inl (r D h) ])
-      next_of_parts weight (Some n) (Some m) l r = (
-        omega (arith, l.0, r.0),
-        λ D sought. elim (either D sought) [
-          | inl h ↦ elim (l.1 D h) [ inl small ↦ inl small | inr large ↦ inr (omega arith) ]
-          | inr h ↦ elim (r.1 D h) [ inl small ↦ inl small | inr large ↦ inr (omega arith) ]
-        ],
-      )
+      -- and so the branches in which the heavier ones wait
+      pub heavier_parts : (weight : ℕ) (old mid new : List Waiting) → AddsHeavier p (IsSought p with) weight old mid → AddsHeavier p (IsSought p without) weight mid new → AddsHeavier p (IsSought p b) weight old new
+      heavier_parts weight old mid new left right =
+          adds_heavier_append p (IsSought p with) (IsSought p without) (IsSought p b) weight old mid new left right
+          (λ D E h k. with_first D E ((has D).0 h) ((lacks E).0 k))
+          (λ D h. ((has D).0 h).0)
+          (λ D h. ((lacks D).0 h).0)
+          either

@@ -2,4 +2,5 @@ pub mod First
 pub mod Weights
 pub mod Branches
 pub mod Rounds
+pub mod Waits
 pub mod Laws

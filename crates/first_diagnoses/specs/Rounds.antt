@@ -1,5 +1,5 @@
--- Rounds: the sets of one weight, and the next weight.
-use Rattle.std.specs.Prelude.{◌≡◌, ◌⊎◌, ℕ, ◌-◌, ◌≤◌, ◌<◌, min, Option, Some, None, List, ◌++◌, length}
+-- Rounds: the sets of one weight.
+use Rattle.std.specs.Prelude.{◌≡◌, ◌⊎◌, ℕ, ◌-◌, ◌<◌, List, ◌++◌, length}
 use Rattle.std.specs.declared.cmp.Ordering.TheVariants.{Less}
 use Rattle.environment_sets.specs.declared.environment.Env.{Env}
 use Rattle.environment_sets.specs.Sets.{Set}
@@ -24,17 +24,6 @@ pub record AddsFirst (p : Problem) (P : Set ℕ → Type 0) (limit : ℕ) (old n
   pub added : List Env
   pub appended : new ≡ old ++ added
   pub first : AreFirst (ComesFirst p) P (limit - length old) (sets added)
-
--- no sought set has a weight between this one and the next one, and none is heavier where there is no next one
-abbrev pub IsNextWeight : Problem → Branch → ℕ → Option ℕ → Type 0
-IsNextWeight p b weight None = (D : Set ℕ) → IsSought p b D → weight_in p D ≤ weight
-IsNextWeight p b weight (Some next) = (weight < next) × ((D : Set ℕ) → IsSought p b D → (weight_in p D ≤ weight) ⊎ (next ≤ weight_in p D))
-
--- the lesser of two weights, where there are two
-abbrev pub lesser_of : Option ℕ → Option ℕ → Option ℕ
-lesser_of None b = b
-lesser_of (Some a) None = Some a
-lesser_of (Some a) (Some b) = Some (min a b)
 
 -- the one weighs less, or as much as the other, and comes first
 abbrev pub ComesByWeight : Problem → Set ℕ → Set ℕ → Type 0

@@ -8,6 +8,7 @@ mod listing;
 mod own;
 mod problem;
 mod rounds;
+mod waiting;
 
 pub use laws::firsts_are_fronts;
 pub use listing::first;

@@ -12,14 +12,15 @@ ghost use Rattle.first_diagnoses.specs.Rounds.{ComesByWeight};
 use crate::branch::Branch;
 use crate::problem::{Problem, weights_of};
 use crate::rounds::{Round, add_round};
+use crate::waiting::{Waiting, least_of};
 use environment_sets::Env;
 use std::alloc::{AllocError, Global};
 
 /// The first `k` minimal hitting sets of the conflicts, which are the diagnoses (Reiter 1987), or all where there are
 /// fewer: by cost, and those of one cost in the order. The cost of `order[i]` is `costs[i]`, and that of a set is the sum
-/// of those of its slots. Where a conflict is empty there is none. It deepens step by step (Korf 1985): each round goes
-/// through the branches that may have a set of the least weight that is left, so the sets that come later are never
-/// listed. It takes memory for the weights of the slots and for the sets that it gives, and for nothing else.
+/// of those of its slots. Where a conflict is empty there is none. It goes through branches best first: each round takes
+/// those that may have a set of the least weight that is left, and the others wait, so the sets that come later are never
+/// listed. It takes memory for the weights of the slots, for the sets that it gives and for the branches that wait.
 pub fn first(
     alloc: Global,
     conflicts: &[Env],
@@ -51,13 +52,26 @@ fn lightest_sets(alloc: Global, problem: &Problem, limit: usize) -> Result<Vec<E
     ensures { IfOk result (λ found. AreFirst (ComesByWeight problem.now) (IsMinimalFor problem.now.conflicts.now) limit (sets found.items)) }
 {
     let all = Branch::all(problem);
+    let mut waiting = Vec::new(alloc);
+    waiting.push(Waiting {
+        least: 0,
+        branch: all,
+    })?;
     let mut found = Vec::new(alloc);
     let mut next = Some(0);
     while let Some(weight) = next {
-        next = add_round(problem, &all, &Round { weight, limit }, &mut found)?;
+        let later = add_round(
+            alloc,
+            problem,
+            &waiting,
+            &Round { weight, limit },
+            &mut found,
+        )?;
         if found.len() >= limit {
             return Ok(found);
         }
+        next = least_of(&later);
+        waiting = later;
     }
     Ok(found)
 }

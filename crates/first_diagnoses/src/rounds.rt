@@ -1,17 +1,19 @@
-// The sets of one weight, in order.
+// The sets of one weight, in order, and the branches that wait for the next one.
 ghost use Rattle.std.specs.Prelude.{◌≡◌, ◌<◌, OnOk, IfOk, length};
 ghost use Rattle.environment_sets.specs.Members.{members};
 ghost use Rattle.hitting_sets.specs.Hitting.{IsMinimalFor};
 ghost use Rattle.first_diagnoses.specs.Weights.{IsProblem};
-ghost use Rattle.first_diagnoses.specs.Branches.{IsBranch, IsOutlook};
-ghost use Rattle.first_diagnoses.specs.Rounds.{IsOfRound, AddsFirst, IsNextWeight, lesser_of};
+ghost use Rattle.first_diagnoses.specs.Branches.{IsBranch, IsSought, IsOutlook};
+ghost use Rattle.first_diagnoses.specs.Rounds.{IsOfRound, AddsFirst};
+ghost use Rattle.first_diagnoses.specs.Waits.{IsWaiting, AreWaiting, IsSoughtIn, IsOfRoundIn, AreHeavier, AddsHeavier};
 
 use crate::bound::least_weight;
 use crate::branch::Branch;
 use crate::own::{has_own, hits_each};
 use crate::problem::{Problem, weight_of};
+use crate::waiting::Waiting;
 use environment_sets::Env;
-use std::alloc::AllocError;
+use std::alloc::{AllocError, Global};
 
 /// Which sets are looked for: those of a weight, up to so many in all.
 #[derive(Clone, Copy)]
@@ -32,32 +34,84 @@ enum Outlook {
     Open,
 }
 
-/// Adds the minimal hitting sets of the branch that have the weight of the round, in order, until there are as many as
-/// wanted. The answer is the least weight above it that a minimal hitting set of the branch may have, if there are fewer
-/// than wanted. An error leaves some of the sets added.
+/// Adds the minimal hitting sets of the weight of the round that the branches have, in order, until there are as many as
+/// wanted. If there are fewer, the answer is the branches that wait on. An error leaves some of the sets added.
 pub fn add_round(
+    alloc: Global,
+    problem: &Problem,
+    waiting: &[Waiting],
+    round: &Round,
+    found: &mut Vec<Env>,
+) -> Result<Vec<Waiting>, AllocError>
+    requires problem { IsProblem problem.now }
+    requires waiting { AreWaiting problem.now waiting.now }
+    requires room { length found.old.items < round.now.limit }
+    ensures first { OnOk result (AddsFirst problem.now (IsOfRoundIn problem.now waiting.now round.now.weight) round.now.limit found.old.items found.new.items) }
+    ensures rest { IfOk result (λ later. length found.new.items < round.now.limit → AreHeavier problem.now (IsSoughtIn problem.now waiting.now) round.now.weight later.items) }
+{
+    let mut later = Vec::new(alloc);
+    for item in waiting {
+        add_waiting(problem, item, round, found, &mut later)?;
+        if found.len() >= round.limit {
+            return Ok(later);
+        }
+    }
+    Ok(later)
+}
+
+// Adds the sets of a branch that has waited, or lets it wait on where its bound is higher.
+fn add_waiting(
+    problem: &Problem,
+    item: &Waiting,
+    round: &Round,
+    found: &mut Vec<Env>,
+    later: &mut Vec<Waiting>,
+) -> Result<(), AllocError>
+    requires problem { IsProblem problem.now }
+    requires waiting { IsWaiting problem.now item.now }
+    requires room { length found.old.items < round.now.limit }
+    ensures first { OnOk result (AddsFirst problem.now (IsOfRound problem.now item.now.branch round.now.weight) round.now.limit found.old.items found.new.items) }
+    ensures rest { OnOk result (length found.new.items < round.now.limit → AddsHeavier problem.now (IsSought problem.now item.now.branch) round.now.weight later.old.items later.new.items) }
+{
+    if item.least > round.weight {
+        later.push(*item)?;
+        return Ok(());
+    }
+    add_branch(problem, &item.branch, round, found, later)
+}
+
+// Adds the sets of the branch that have the weight of the round, until there are as many as wanted, and lets the parts
+// of the branch wait whose sets weigh more.
+fn add_branch(
     problem: &Problem,
     branch: &Branch,
     round: &Round,
     found: &mut Vec<Env>,
-) -> Result<Option<u32>, AllocError>
+    later: &mut Vec<Waiting>,
+) -> Result<(), AllocError>
     requires problem { IsProblem problem.now }
     requires branch { IsBranch problem.now branch.now }
     requires room { length found.old.items < round.now.limit }
     ensures first { OnOk result (AddsFirst problem.now (IsOfRound problem.now branch.now round.now.weight) round.now.limit found.old.items found.new.items) }
-    ensures next { IfOk result (λ next. length found.new.items < round.now.limit → IsNextWeight problem.now branch.now round.now.weight next) }
+    ensures rest { OnOk result (length found.new.items < round.now.limit → AddsHeavier problem.now (IsSought problem.now branch.now) round.now.weight later.old.items later.new.items) }
 {
     match look_at(problem, branch, round.weight) {
-        Outlook::Nothing => Ok(None),
-        Outlook::Heavier(least) => Ok(Some(least)),
-        Outlook::Whole => add_chosen(problem, branch, round, found),
+        Outlook::Nothing => Ok(()),
+        Outlook::Heavier(least) => {
+            later.push(Waiting {
+                least,
+                branch: *branch,
+            })?;
+            Ok(())
+        }
+        Outlook::Whole => add_chosen(problem, branch, round, found, later),
         Outlook::Open => {
-            let with = add_round(problem, &branch.with_next(problem), round, found)?;
+            add_branch(problem, &branch.with_next(problem), round, found, later)?;
             if found.len() >= round.limit {
-                return Ok(with);
+                return Ok(());
             }
-            let without = add_round(problem, &branch.without_next(problem), round, found)?;
-            Ok(lesser(with, without))
+            add_branch(problem, &branch.without_next(problem), round, found, later)?;
+            Ok(())
         }
     }
 }
@@ -86,38 +140,32 @@ fn look_at(problem: &Problem, branch: &Branch, weight: u32) -> Outlook
     Outlook::Open
 }
 
-// Adds the chosen set where it has the weight of the round.
+// Adds the chosen set where it has the weight of the round, and lets the branch wait where it weighs more.
 fn add_chosen(
     problem: &Problem,
     branch: &Branch,
     round: &Round,
     found: &mut Vec<Env>,
-) -> Result<Option<u32>, AllocError>
+    later: &mut Vec<Waiting>,
+) -> Result<(), AllocError>
     requires problem { IsProblem problem.now }
     requires branch { IsBranch problem.now branch.now }
     requires room { length found.old.items < round.now.limit }
     requires minimal { IsMinimalFor problem.now.conflicts.now (members branch.now.chosen) }
     ensures first { OnOk result (AddsFirst problem.now (IsOfRound problem.now branch.now round.now.weight) round.now.limit found.old.items found.new.items) }
-    ensures next { IfOk result (IsNextWeight problem.now branch.now round.now.weight) }
+    ensures rest { OnOk result (AddsHeavier problem.now (IsSought problem.now branch.now) round.now.weight later.old.items later.new.items) }
 {
     let weight = weight_of(problem, &branch.chosen);
     if weight == round.weight {
         found.push(branch.chosen)?;
-        return Ok(None);
+        return Ok(());
     }
     if weight > round.weight {
-        return Ok(Some(weight));
+        later.push(Waiting {
+            least: weight,
+            branch: *branch,
+        })?;
+        return Ok(());
     }
-    Ok(None)
-}
-
-// The lesser of two weights, where there are two.
-fn lesser(a: Option<u32>, b: Option<u32>) -> Option<u32>
-    ensures { result ≡ lesser_of a b }
-{
-    match (a, b) {
-        (Some(a), Some(b)) => Some(a.min(b)),
-        (Some(a), None) => Some(a),
-        (None, b) => b,
-    }
+    Ok(())
 }

@@ -1,5 +1,7 @@
-// Known circuits with their labels, nogoods, conflicts and diagnoses, by the plain answers.
+// Known circuits by the plain answers: labels, nogoods, conflicts and diagnoses, and what sessions answer of them.
 #![tactic(auto)]
 
 #[cfg(test)]
 mod rows;
+#[cfg(test)]
+mod sessions;
