@@ -4,10 +4,12 @@ ghost use Rattle.circuit_model.specs.Stock.{IsEnvironment};
 ghost use Rattle.environment_sets.specs.Members.{members};
 ghost use Rattle.assumption_slots.specs.Slots.{stock};
 
-use circuit_model::{Assumption, Cell, Fact, Kind, instances_of, limits};
+use circuit_model::{Assumption, Cell, Fact, Kind, Part, instances_of, limits};
 use environment_sets::{Env, SLOTS};
 use label_engine::{Engine, Stop};
 use propagation_agenda::Oldest;
+use std::alloc::Global;
+use std::process::Abort;
 use std::test::Fail;
 use word_domain::Width;
 
@@ -37,19 +39,21 @@ fn zero_of(place: u16) -> Fact {
     }
 }
 
+fn remember(engine: &mut Engine, fact: Fact) -> Result<u16, Stop> {
+    engine.assume(Assumption::Reading(fact), &mut Oldest)
+}
+
 #[test]
 fn each_slot_is_taken_and_no_other(rt: HostRuntime) -> Result<(), Fail> {
     let mut engine = Engine::open(rt.alloc())?;
     for slot in 0..SLOTS as u16 {
-        let taken = engine.assume(Assumption::Reading(zero_of(slot)), &mut Oldest);
-        assert_eq!(rt; taken, Ok(slot));
+        assert!(rt; remember(&mut engine, zero_of(slot)) == Ok(slot));
     }
     let one_more = zero_of(SLOTS as u16);
-    let refused = engine.assume(Assumption::Reading(one_more), &mut Oldest);
-    assert_eq!(rt; refused, Err(Stop::NoSlot));
-    assert_eq!(rt; engine.slot_of(one_more), None);
+    assert!(rt; remember(&mut engine, one_more) == Err(Stop::NoSlot));
+    assert!(rt; engine.slot_of(one_more).is_none());
     let last = SLOTS as u16 - 1;
-    assert_eq!(rt; engine.slot_of(zero_of(last)), Some(last));
+    assert!(rt; engine.slot_of(zero_of(last)) == Some(last));
     Ok(())
 }
 
@@ -71,32 +75,44 @@ fn with_slot_of(engine: &Engine, mask: Env, fact: Fact) -> Env
     }
 }
 
+// Whether under the mask the word follows at the cell first, and the other after it, and this is the load.
+fn answers(
+    engine: &Engine,
+    mask: &Env,
+    cell: Cell,
+    words: (Option<u64>, Option<u64>),
+    load: u64,
+) -> bool
+    requires { IsEnvironment (stock engine.now.slots) (members mask.now) }
+{
+    engine.values_after(cell, mask, None) == words.0
+        && engine.values_after(cell, mask, words.0) == words.1
+        && engine.load_under(mask) == load
+}
+
+// Whether each mask is answered by itself: none, the slot of a word, of another word of its cell too, and of one more.
+fn answers_by_masks(engine: &Engine) -> bool {
+    let cell = Cell { net: 0, cycle: 0 };
+    let none = no_slot(engine);
+    let one = with_slot_of(engine, none, word(0, 1));
+    let two = with_slot_of(engine, one, word(0, 2));
+    let all = with_slot_of(engine, two, word(1, 1));
+    answers(engine, &none, cell, (None, None), 0)
+        && answers(engine, &one, cell, (Some(1), None), 1)
+        && answers(engine, &two, cell, (Some(1), Some(2)), 3)
+        && answers(engine, &all, cell, (Some(1), Some(2)), 4)
+}
+
 // Two words of one cell, which clash, and one of another.
 #[test]
 fn a_mask_is_answered_by_itself(rt: HostRuntime) -> Result<(), Fail> {
     let mut engine = Engine::open(rt.alloc())?;
-    let cell = Cell { net: 0, cycle: 0 };
     for (net, value) in [(0, 1), (0, 2), (1, 1)] {
-        let fact = word(net, value);
-        assert!(rt;
-            engine
-                .assume(Assumption::Reading(fact), &mut Oldest)
-                .is_ok()
-        );
+        assert!(rt; remember(&mut engine, word(net, value)).is_ok());
     }
-    assert_eq!(rt; engine.slot_of(word(0, 2)), Some(1));
-    assert_eq!(rt; engine.slot_of(word(1, 2)), None);
-    let none = no_slot(&engine);
-    let one = with_slot_of(&engine, none, word(0, 1));
-    let two = with_slot_of(&engine, one, word(0, 2));
-    let all = with_slot_of(&engine, two, word(1, 1));
-    assert_eq!(rt; engine.load_under(&none), 0);
-    assert_eq!(rt; engine.load_under(&one), 1);
-    assert_eq!(rt; engine.load_under(&two), 3);
-    assert_eq!(rt; engine.load_under(&all), 4);
-    assert_eq!(rt; engine.values_after(cell, &all, None), Some(1));
-    assert_eq!(rt; engine.values_after(cell, &all, Some(1)), Some(2));
-    assert_eq!(rt; engine.values_after(cell, &one, Some(1)), None);
+    assert!(rt; engine.slot_of(word(0, 2)) == Some(1));
+    assert!(rt; engine.slot_of(word(1, 2)).is_none());
+    assert!(rt; answers_by_masks(&engine));
     Ok(())
 }
 
@@ -109,24 +125,6 @@ fn with_assumed(engine: &mut Engine, mask: Env, what: Assumption) -> Result<Env,
         Ok(slot) => Ok(mask.with(slot)),
         Err(stop) => Err(stop),
     }
-}
-
-// An adder, and then the words of its terms.
-#[test]
-fn a_component_makes_its_sum(rt: HostRuntime) -> Result<(), Fail> {
-    let width = Width::new(8).ok_or("a width")?;
-    let adder = instances_of(rt.alloc(), Kind::Add, [0, 1, 2], [width; 3], 1)?;
-    let mut engine = Engine::open(rt.alloc())?;
-    let none = no_slot(&engine);
-    let part = with_assumed(&mut engine, none, Assumption::Part(adder))?;
-    let term = with_assumed(&mut engine, part, Assumption::Reading(word(0, 5)))?;
-    let all = with_assumed(&mut engine, term, Assumption::Reading(word(1, 7)))?;
-    let sum = Cell { net: 2, cycle: 0 };
-    assert_eq!(rt; all.size(), 3);
-    assert_eq!(rt; engine.values_after(sum, &all, None), Some(12));
-    assert_eq!(rt; engine.values_after(sum, &all, Some(12)), None);
-    assert_eq!(rt; engine.load_under(&all), 3);
-    Ok(())
 }
 
 // The reading is forgotten, if it is remembered, and its slot leaves the mask.
@@ -143,24 +141,48 @@ fn without_reading(engine: &mut Engine, mask: Env, fact: Fact) -> Env
     }
 }
 
-// One word after another at a term of an adder: what followed from the word before is gone, and its slot is given out again.
+// A word at the adder's other term is remembered, and the sum alone follows from it; then it is forgotten, and nothing
+// that followed is left.
+fn sum_comes_and_goes(
+    rt: &impl Abort,
+    engine: &mut Engine,
+    mask: Env,
+    term: u64,
+    sum: u64,
+) -> Result<Env, Stop>
+    requires { IsEnvironment (stock engine.old.slots) (members mask) }
+    ensures { IfOk result (λ left. IsEnvironment (stock engine.new.slots) (members left)) }
+{
+    let fact = word(1, term);
+    let cell = Cell { net: 2, cycle: 0 };
+    let all = with_assumed(engine, mask, Assumption::Reading(fact))?;
+    assert!(rt; all.size() == 3 && engine.slot_of(fact) == Some(2));
+    assert!(rt; answers(engine, &all, cell, (Some(sum), None), 3));
+    let left = without_reading(engine, all, fact);
+    assert!(rt; answers(engine, &left, cell, (None, None), 1));
+    Ok(left)
+}
+
+// The adder, and the word of one term; and one word after another at the other term, each at the slot of the word before.
+fn sums_come_and_go(rt: &impl Abort, engine: &mut Engine, adder: Part) -> Result<(), Stop> {
+    let none = no_slot(engine);
+    let part = with_assumed(engine, none, Assumption::Part(adder))?;
+    let term = with_assumed(engine, part, Assumption::Reading(word(0, 5)))?;
+    let left = sum_comes_and_goes(rt, engine, term, 7, 12)?;
+    let left = sum_comes_and_goes(rt, engine, left, 8, 13)?;
+    sum_comes_and_goes(rt, engine, left, 9, 14)?;
+    Ok(())
+}
+
+fn adder(alloc: Global) -> Result<Part, Fail> {
+    let width = Width::new(8).ok_or("a width")?;
+    Ok(instances_of(alloc, Kind::Add, [0, 1, 2], [width; 3], 1)?)
+}
+
 #[test]
 fn what_is_forgotten_leaves_no_trace(rt: HostRuntime) -> Result<(), Fail> {
-    let width = Width::new(8).ok_or("a width")?;
-    let adder = instances_of(rt.alloc(), Kind::Add, [0, 1, 2], [width; 3], 1)?;
+    let adder = adder(rt.alloc())?;
     let mut engine = Engine::open(rt.alloc())?;
-    let none = no_slot(&engine);
-    let part = with_assumed(&mut engine, none, Assumption::Part(adder))?;
-    let mut mask = with_assumed(&mut engine, part, Assumption::Reading(word(0, 5)))?;
-    let sum = Cell { net: 2, cycle: 0 };
-    for value in [7, 8, 9] {
-        let all = with_assumed(&mut engine, mask, Assumption::Reading(word(1, value)))?;
-        assert_eq!(rt; engine.slot_of(word(1, value)), Some(2));
-        assert_eq!(rt; engine.values_after(sum, &all, None), Some(5 + value));
-        assert_eq!(rt; engine.load_under(&all), 3);
-        mask = without_reading(&mut engine, all, word(1, value));
-        assert_eq!(rt; engine.values_after(sum, &mask, None), None);
-        assert_eq!(rt; engine.load_under(&mask), 1);
-    }
+    sums_come_and_go(&rt, &mut engine, adder)?;
     Ok(())
 }

@@ -3,6 +3,7 @@
 use environment_sets::{Env, SLOTS};
 use label_algebra::{Inserted, Label};
 use nogood_store::Nogoods;
+use std::alloc::AllocError;
 use std::mem::size_of;
 use std::test::Fail;
 
@@ -12,8 +13,7 @@ const LAST: u16 = SLOTS as u16 - 1;
 
 #[test]
 fn an_environment_takes_a_bit_a_slot(rt: HostRuntime) {
-    assert_eq!(rt; SLOTS, 1024);
-    assert_eq!(rt; size_of::<Env>(), 128);
+    assert!(rt; SLOTS == 1024 && size_of::<Env>() == 128);
 }
 
 #[test]
@@ -30,34 +30,49 @@ fn all_slots_are_a_set(rt: HostRuntime) {
     for slot in 0..SLOTS as u16 {
         all = all.with(slot);
     }
-    assert_eq!(rt; usize::from(all.size()), SLOTS);
-    assert_eq!(rt; all.without(LAST).size(), LAST);
+    assert!(rt; usize::from(all.size()) == SLOTS && all.without(LAST).size() == LAST);
+}
+
+// Sets one after another, and what the insertion of each does.
+fn insertions() -> [(Env, Inserted); 4] {
+    let one = Env::empty().with(1);
+    let three = Env::empty().with(3);
+    [
+        (three.with(2), Inserted::Added),
+        (one, Inserted::Added),
+        (one.with(2), Inserted::Covered),
+        (three, Inserted::Added),
+    ]
+}
+
+fn label_takes(label: &mut Label) -> Result<bool, AllocError> {
+    for (set, wanted) in insertions() {
+        if label.insert(set)? != wanted {
+            return Ok(false);
+        }
+    }
+    Ok(true)
+}
+
+fn nogoods_take(nogoods: &mut Nogoods) -> Result<bool, AllocError> {
+    for (set, wanted) in insertions() {
+        if nogoods.insert(set)? != wanted {
+            return Ok(false);
+        }
+    }
+    Ok(true)
 }
 
 #[test]
-fn a_label_keeps_minimal_members(rt: HostRuntime) -> Result<(), Fail> {
+fn labels_and_nogoods_keep_minimal_members(rt: HostRuntime) -> Result<(), Fail> {
     let one = Env::empty().with(1);
-    let three = Env::empty().with(3);
+    let all = one.with(2).with(3);
+    let three = Some(Env::empty().with(3));
     let mut label = Label::new(rt.alloc());
-    assert_eq!(rt; label.insert(three.with(2))?, Inserted::Added);
-    assert_eq!(rt; label.insert(one)?, Inserted::Added);
-    assert_eq!(rt; label.insert(one.with(2))?, Inserted::Covered);
-    assert_eq!(rt; label.insert(three)?, Inserted::Added);
-    let all = one.with(2).with(3);
-    assert_eq!(rt; label.next_after(&ORDER, &all, Some(&one)), Some(three));
-    Ok(())
-}
-
-#[test]
-fn nogoods_keep_minimal_members(rt: HostRuntime) -> Result<(), Fail> {
-    let one = Env::empty().with(1);
-    let three = Env::empty().with(3);
+    assert!(rt; label_takes(&mut label)?);
+    assert!(rt; label.next_after(&ORDER, &all, Some(&one)) == three);
     let mut nogoods = Nogoods::new(rt.alloc());
-    assert_eq!(rt; nogoods.insert(three.with(2))?, Inserted::Added);
-    assert_eq!(rt; nogoods.insert(one)?, Inserted::Added);
-    assert_eq!(rt; nogoods.insert(one.with(2))?, Inserted::Covered);
-    assert_eq!(rt; nogoods.insert(three)?, Inserted::Added);
-    let all = one.with(2).with(3);
-    assert_eq!(rt; nogoods.next_after(&ORDER, &all, Some(&one)), Some(three));
+    assert!(rt; nogoods_take(&mut nogoods)?);
+    assert!(rt; nogoods.next_after(&ORDER, &all, Some(&one)) == three);
     Ok(())
 }

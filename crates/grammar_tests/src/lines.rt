@@ -21,111 +21,93 @@ fn are_asked(rt: &impl Abort, rows: &[(&[u8], Query)]) {
     }
 }
 
+// Lines of components, with their kinds and nets.
+const COMPONENTS: [(&[u8], Kind, [&[u8]; 3]); 13] = [
+    (b"buf U a_1 _", Kind::Buf, [b"a_1", b"_", b"_"]),
+    (b"not U a_1 _", Kind::Not, [b"a_1", b"_", b"_"]),
+    (
+        b"reg U a_1 _ 0",
+        Kind::Reg { reset: 0 },
+        [b"a_1", b"_", b"_"],
+    ),
+    (
+        b"reg U a_1 _ 4294967295",
+        Kind::Reg {
+            reset: 4_294_967_295,
+        },
+        [b"a_1", b"_", b"_"],
+    ),
+    (b"and U a_1 net _", Kind::And, [b"a_1", b"net", b"_"]),
+    (b"or U a_1 net _", Kind::Or, [b"a_1", b"net", b"_"]),
+    (b"xor U a_1 net _", Kind::Xor, [b"a_1", b"net", b"_"]),
+    (b"nand U a_1 net _", Kind::Nand, [b"a_1", b"net", b"_"]),
+    (b"nor U a_1 net _", Kind::Nor, [b"a_1", b"net", b"_"]),
+    (b"xnor U a_1 net _", Kind::Xnor, [b"a_1", b"net", b"_"]),
+    (b"add U a_1 net _", Kind::Add, [b"a_1", b"net", b"_"]),
+    (
+        b"\tmul  U a_1\r net _ \r",
+        Kind::Mul,
+        [b"a_1", b"net", b"_"],
+    ),
+    (
+        b"const U _ 007",
+        Kind::Const { value: 7 },
+        [b"_", b"_", b"_"],
+    ),
+];
+
+fn names([a, b, z]: [&[u8]; 3]) -> Result<[Name; 3], Fail> {
+    Ok([name(a)?, name(b)?, name(z)?])
+}
+
 #[test]
 fn components(rt: HostRuntime) -> Result<(), Fail> {
-    let (u, a, b, z) = (name(b"U")?, name(b"a_1")?, name(b"net")?, name(b"_")?);
-    let two: [(&[u8], Kind); 4] = [
-        (b"buf U a_1 _", Kind::Buf),
-        (b"not U a_1 _", Kind::Not),
-        (b"reg U a_1 _ 0", Kind::Reg { reset: 0 }),
-        (
-            b"reg U a_1 _ 4294967295",
-            Kind::Reg {
-                reset: 4_294_967_295,
-            },
-        ),
-    ];
-    for (line, kind) in two {
-        let nets = [a, z, z];
-        are_read(
-            &rt,
-            &[(
-                line,
-                Change::Add {
-                    name: u,
-                    kind,
-                    nets,
-                },
-            )],
-        );
+    let u = name(b"U")?;
+    for (line, kind, nets) in &COMPONENTS {
+        let change = Change::Add {
+            name: u,
+            kind: *kind,
+            nets: names(*nets)?,
+        };
+        assert_eq!(rt; read_line(line), Ok(Request::Change(change)));
     }
-    let three: [(&[u8], Kind); 8] = [
-        (b"and U a_1 net _", Kind::And),
-        (b"or U a_1 net _", Kind::Or),
-        (b"xor U a_1 net _", Kind::Xor),
-        (b"nand U a_1 net _", Kind::Nand),
-        (b"nor U a_1 net _", Kind::Nor),
-        (b"xnor U a_1 net _", Kind::Xnor),
-        (b"add U a_1 net _", Kind::Add),
-        (b"\tmul  U a_1\r net _ \r", Kind::Mul),
-    ];
-    for (line, kind) in three {
-        let nets = [a, b, z];
-        are_read(
-            &rt,
-            &[(
-                line,
-                Change::Add {
-                    name: u,
-                    kind,
-                    nets,
-                },
-            )],
-        );
-    }
-    let kind = Kind::Const { value: 7 };
-    let nets = [z, z, z];
-    are_read(
-        &rt,
-        &[(
-            b"const U _ 007",
-            Change::Add {
-                name: u,
-                kind,
-                nets,
-            },
-        )],
-    );
     Ok(())
 }
+
+const INNER_COMPONENTS: [(&[u8], Kind, [&[u8]; 3]); 4] = [
+    (b"inside T and G A B Z", Kind::And, [b"A", b"B", b"Z"]),
+    (b"inside T not G A Z", Kind::Not, [b"A", b"Z", b"Z"]),
+    (
+        b"inside T const G Z 9",
+        Kind::Const { value: 9 },
+        [b"Z", b"Z", b"Z"],
+    ),
+    (
+        b"inside T reg G A Z 1",
+        Kind::Reg { reset: 1 },
+        [b"A", b"Z", b"Z"],
+    ),
+];
 
 #[test]
 fn inner_components(rt: HostRuntime) -> Result<(), Fail> {
-    let (block, g, a, b, z) = (
-        name(b"T")?,
-        name(b"G")?,
-        name(b"A")?,
-        name(b"B")?,
-        name(b"Z")?,
-    );
-    let rows: [(&[u8], Kind, [Name; 3]); 4] = [
-        (b"inside T and G A B Z", Kind::And, [a, b, z]),
-        (b"inside T not G A Z", Kind::Not, [a, z, z]),
-        (b"inside T const G Z 9", Kind::Const { value: 9 }, [z, z, z]),
-        (b"inside T reg G A Z 1", Kind::Reg { reset: 1 }, [a, z, z]),
-    ];
-    for (line, kind, nets) in rows {
-        let name = g;
-        are_read(
-            &rt,
-            &[(
-                line,
-                Change::Inside {
-                    block,
-                    name,
-                    kind,
-                    nets,
-                },
-            )],
-        );
+    let (block, g) = (name(b"T")?, name(b"G")?);
+    for (line, kind, nets) in &INNER_COMPONENTS {
+        let change = Change::Inside {
+            block,
+            name: g,
+            kind: *kind,
+            nets: names(*nets)?,
+        };
+        assert_eq!(rt; read_line(line), Ok(Request::Change(change)));
     }
     Ok(())
 }
 
 #[test]
-fn changes(rt: HostRuntime) -> Result<(), Fail> {
+fn changes_of_components(rt: HostRuntime) -> Result<(), Fail> {
     let (a, block, xor) = (name(b"A")?, name(b"T")?, name(b"xor")?);
-    let rows: [(&[u8], Change); 13] = [
+    let rows: [(&[u8], Change); 7] = [
         (b"cycles 16", Change::Cycles { count: 16 }),
         (b"net A 0032", Change::Net { name: a, width: 32 }),
         (b"cost A 40", Change::Cost { name: a, cost: 40 }),
@@ -154,32 +136,26 @@ fn changes(rt: HostRuntime) -> Result<(), Fail> {
                 width: 1,
             },
         ),
-        (
-            b"measure A 5",
-            Change::Measure {
-                net: a,
-                cycle: 0,
-                value: 5,
-            },
-        ),
-        (
-            b"measure A@1 6",
-            Change::Measure {
-                net: a,
-                cycle: 1,
-                value: 6,
-            },
-        ),
-        (
-            b"measure A@0015 9999999999",
-            Change::Measure {
-                net: a,
-                cycle: 15,
-                value: 9_999_999_999,
-            },
-        ),
-        (b"retract A", Change::Retract { net: a, cycle: 0 }),
-        (b"retract A@2", Change::Retract { net: a, cycle: 2 }),
+    ];
+    are_read(&rt, &rows);
+    Ok(())
+}
+
+#[test]
+fn changes_of_readings(rt: HostRuntime) -> Result<(), Fail> {
+    let net = name(b"A")?;
+    // lines, their cycles and their values
+    let measured: [(&[u8], u64, u64); 3] = [
+        (b"measure A 5", 0, 5),
+        (b"measure A@1 6", 1, 6),
+        (b"measure A@0015 9999999999", 15, 9_999_999_999),
+    ];
+    for (line, cycle, value) in measured {
+        are_read(&rt, &[(line, Change::Measure { net, cycle, value })]);
+    }
+    let rows: [(&[u8], Change); 3] = [
+        (b"retract A", Change::Retract { net, cycle: 0 }),
+        (b"retract A@2", Change::Retract { net, cycle: 2 }),
         (b" undo ", Change::Undo),
     ];
     are_read(&rt, &rows);

@@ -1,59 +1,96 @@
 // Sessions whose reads and writes fail, each in turn.
 ghost use Rattle.std.specs.Prelude.{◌<◌};
 
-use crate::running::{NEVER, SESSION, lines_ended, ran, session};
+use crate::running::{NEVER, SESSION, lines_ended, ran, replies_to, session};
 use bench_cli::Status;
 use std::alloc::Global;
 use std::process::Abort;
 use std::test::Fail;
 
-// Lets each read of pieces of this size fail in turn, and then none.
-fn reads_fail(rt: &impl Abort, alloc: Global, piece: usize) -> Result<(), Fail>
+// Whether the run ends with the status where the read fails, with the replies to the first lines.
+fn is_read(
+    alloc: Global,
+    text: &[u8],
+    piece: usize,
+    read: u64,
+    lines: usize,
+    status: Status,
+) -> Result<bool, Fail>
     requires { 0 < piece }
 {
-    let (text, replies) = session(alloc, SESSION.len())?;
-    let last = text.len().div_ceil(piece) + 1;
-    for read in 1..=last {
-        let given = (read - 1).saturating_mul(piece).min(text.len());
-        let (_, want) = session(alloc, lines_ended(&text[..given]))?;
-        let (status, sink) = ran(alloc, "run", &text, piece, read as u64, NEVER)?;
-        assert!(rt; status == Status::ReadFault, "piece {piece}, read {read}");
+    let want = replies_to(alloc, lines)?;
+    let (ended, sink) = ran(alloc, "run", text, piece, read, NEVER)?;
+    Ok(ended == status && sink.held() == want.as_slice())
+}
+
+// Lets each read of pieces of this size fail in turn, and then none.
+fn reads_fail(rt: &impl Abort, alloc: Global, text: &[u8], piece: usize) -> Result<(), Fail>
+    requires { 0 < piece }
+{
+    let last = text.len().div_ceil(piece);
+    for read in 0..last + 1 {
+        let given = read.saturating_mul(piece).min(text.len());
+        let lines = lines_ended(&text[..given]);
+        let fault = Status::ReadFault;
         assert!(rt;
-            sink.held() == want.as_slice(),
+            is_read(alloc, text, piece, read as u64 + 1, lines, fault)?,
             "piece {piece}, read {read}"
         );
     }
-    let (status, sink) = ran(alloc, "run", &text, piece, last as u64 + 1, NEVER)?;
-    assert!(rt; status == Status::Done, "piece {piece}");
-    assert!(rt; sink.held() == replies.as_slice(), "piece {piece}");
+    let after = last as u64 + 2;
+    assert!(rt;
+        is_read(alloc, text, piece, after, SESSION.len(), Status::Done)?,
+        "piece {piece}"
+    );
     Ok(())
 }
 
 #[test]
 fn each_read_fails_in_turn(rt: HostRuntime) -> Result<(), Fail> {
-    reads_fail(&rt, rt.alloc(), 1)?;
-    reads_fail(&rt, rt.alloc(), 7)?;
-    reads_fail(&rt, rt.alloc(), 1024)
+    let text = session(rt.alloc())?;
+    reads_fail(&rt, rt.alloc(), &text, 1)?;
+    reads_fail(&rt, rt.alloc(), &text, 7)?;
+    reads_fail(&rt, rt.alloc(), &text, 1024)
+}
+
+// How much was written before the write failed, if it failed; and all that was written stands first in the replies.
+fn written_before(
+    alloc: Global,
+    text: &[u8],
+    piece: usize,
+    write: u64,
+    replies: &[u8],
+) -> Result<Option<usize>, Fail>
+    requires { 0 < piece }
+{
+    let (status, sink) = ran(alloc, "run", text, piece, NEVER, write)?;
+    let held = sink.held();
+    match status {
+        Status::WriteFault if replies.starts_with(held) => Ok(Some(held.len())),
+        Status::Done if held == replies => Ok(None),
+        _ => Err("another status, or other replies".into()),
+    }
 }
 
 // Lets each write fail in turn, up to the last, where the session is read in pieces of this size.
-fn writes_fail(rt: &impl Abort, alloc: Global, piece: usize) -> Result<(), Fail>
+fn writes_fail(
+    rt: &impl Abort,
+    alloc: Global,
+    text: &[u8],
+    replies: &[u8],
+    piece: usize,
+) -> Result<(), Fail>
     requires { 0 < piece }
 {
-    let (text, replies) = session(alloc, SESSION.len())?;
     let mut len = 0;
     for write in 1..100 {
-        let (status, sink) = ran(alloc, "run", &text, piece, NEVER, write)?;
-        if status == Status::Done {
+        let Some(written) = written_before(alloc, text, piece, write, replies)? else {
             // Seven lines have a reply, and each is at least one write.
             assert!(rt; 7 < write, "there are {write} writes");
-            assert!(rt; sink.held() == replies.as_slice(), "no write fails");
             return Ok(());
-        }
-        assert!(rt; status == Status::WriteFault, "write {write}");
-        assert!(rt; replies.starts_with(sink.held()), "write {write}");
-        assert!(rt; write == 1 || len < sink.held().len(), "write {write}");
-        len = sink.held().len();
+        };
+        assert!(rt; write == 1 || len < written, "write {write}");
+        len = written;
     }
     assert!(rt; false, "there are more writes");
     Ok(())
@@ -61,7 +98,9 @@ fn writes_fail(rt: &impl Abort, alloc: Global, piece: usize) -> Result<(), Fail>
 
 #[test]
 fn each_write_fails_in_turn(rt: HostRuntime) -> Result<(), Fail> {
-    writes_fail(&rt, rt.alloc(), 1)?;
-    writes_fail(&rt, rt.alloc(), 7)?;
-    writes_fail(&rt, rt.alloc(), 1024)
+    let text = session(rt.alloc())?;
+    let replies = replies_to(rt.alloc(), SESSION.len())?;
+    writes_fail(&rt, rt.alloc(), &text, &replies, 1)?;
+    writes_fail(&rt, rt.alloc(), &text, &replies, 7)?;
+    writes_fail(&rt, rt.alloc(), &text, &replies, 1024)
 }

@@ -1,8 +1,8 @@
 // Presents with costs, modes and blocks, and their text, by whole sessions.
 
-use crate::running::{NEVER, ask_rows, lines_ended, ran, run_rows};
+use crate::running::{NEVER, ask_rows, is_answered, joined, lines_ended, ran, run_rows};
 use bench_cli::Status;
-use std::process::Abort;
+use std::alloc::Global;
 use std::test::Fail;
 
 // Lines and what they are asked then, with the replies to the questions alone; each of the lines is answered `ok`.
@@ -46,29 +46,26 @@ fn shown(rt: HostRuntime) -> Result<(), Fail> {
     ask_rows(&rt, rt.alloc(), &SHOWN)
 }
 
-// The reply to the last line, after so many lines that were answered `ok`.
-fn last_reply<'a>(rt: &impl Abort, held: &'a [u8], accepted: usize) -> &'a [u8] {
+// The reply to `show` after the lines, so many of which are answered `ok` and the others have no reply.
+fn shown_after(alloc: Global, lines: &[u8], accepted: usize) -> Result<Vec<u8>, Fail> {
+    let text = joined(alloc, &[lines, b"show\n"])?;
+    let (status, sink) = ran(alloc, "run", &text, 1024, NEVER, NEVER)?;
     let front = accepted.saturating_mul(3);
-    assert!(rt; front <= held.len());
-    &held[front..]
+    if status != Status::Done || front > sink.held().len() {
+        return Err("nothing is shown".into());
+    }
+    Ok(Vec::from_slice(alloc, &sink.held()[front..])?)
 }
 
 // The text of each of these presents, read afresh, shows itself; each of its lines is answered `ok` but its first and last,
 // which have no reply.
 #[test]
 fn shown_again(rt: HostRuntime) -> Result<(), Fail> {
-    let alloc = rt.alloc();
     for (i, (lines, _, _)) in SHOWN.iter().enumerate() {
-        let mut text = Vec::from_slice(alloc, lines)?;
-        text.extend_from_slice(b"show\n")?;
-        let (_, sink) = ran(alloc, "run", &text, 1024, NEVER, NEVER)?;
-        let shown = last_reply(&rt, sink.held(), lines_ended(lines));
-        let mut again = Vec::from_slice(alloc, shown)?;
-        again.extend_from_slice(b"show\n")?;
-        let (status, sink) = ran(alloc, "run", &again, 1024, NEVER, NEVER)?;
-        assert!(rt; status == Status::Done, "row {i}");
-        let accepted = lines_ended(shown).saturating_sub(2);
-        assert!(rt; last_reply(&rt, sink.held(), accepted) == shown, "row {i}");
+        let shown = shown_after(rt.alloc(), lines, lines_ended(lines))?;
+        let accepted = lines_ended(&shown).saturating_sub(2);
+        let again = shown_after(rt.alloc(), &shown, accepted)?;
+        assert!(rt; shown == again, "row {i}");
     }
     Ok(())
 }
@@ -107,8 +104,7 @@ const IN_ORDER_REPLIES: &[u8] =
 
 #[test]
 fn refused_in_order(rt: HostRuntime) -> Result<(), Fail> {
-    let (status, sink) = ran(rt.alloc(), "run", IN_ORDER, 1024, NEVER, NEVER)?;
-    assert!(rt; status == Status::SomeRefused);
-    assert!(rt; sink.held() == IN_ORDER_REPLIES);
+    let refused = Status::SomeRefused;
+    assert!(rt; is_answered(rt.alloc(), IN_ORDER, IN_ORDER_REPLIES, refused)?);
     Ok(())
 }

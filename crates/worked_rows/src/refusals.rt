@@ -1,10 +1,11 @@
 // Lines that are refused, each by the first check that applies.
 
-use crate::running::{NEVER, SESSION, ran, session};
+use crate::running::{
+    Row, SESSION, accepted, is_answered, joined, lines_ended, replies_to, session,
+};
 use bench_cli::Status;
 use itoa::Buffer;
 use std::alloc::Global;
-use std::process::Abort;
 use std::test::Fail;
 
 // The lines of one session, with their replies.
@@ -41,19 +42,29 @@ const IN_ORDER: [(&[u8], &[u8]); 28] = [
     (b"net C x", b"no 15 bad number\n"),
 ];
 
-#[test]
-fn each_by_its_first_check(rt: HostRuntime) -> Result<(), Fail> {
-    let alloc = rt.alloc();
+// The lines of the rows, and their replies.
+fn lines_of(alloc: Global, rows: &[Row<'_>]) -> Result<Vec<u8>, Fail> {
     let mut text = Vec::new(alloc);
-    let mut want = Vec::new(alloc);
-    for (line, reply) in IN_ORDER {
+    for (line, _) in rows {
         text.extend_from_slice(line)?;
         text.push(b'\n')?;
-        want.extend_from_slice(reply)?;
     }
-    let (status, sink) = ran(alloc, "run", &text, 1024, NEVER, NEVER)?;
-    assert!(rt; status == Status::SomeRefused);
-    assert!(rt; sink.held() == want.as_slice());
+    Ok(text)
+}
+
+fn replies_of(alloc: Global, rows: &[Row<'_>]) -> Result<Vec<u8>, Fail> {
+    let mut replies = Vec::new(alloc);
+    for (_, reply) in rows {
+        replies.extend_from_slice(reply)?;
+    }
+    Ok(replies)
+}
+
+#[test]
+fn each_by_its_first_check(rt: HostRuntime) -> Result<(), Fail> {
+    let text = lines_of(rt.alloc(), &IN_ORDER)?;
+    let want = replies_of(rt.alloc(), &IN_ORDER)?;
+    assert!(rt; is_answered(rt.alloc(), &text, &want, Status::SomeRefused)?);
     Ok(())
 }
 
@@ -145,29 +156,35 @@ const REFUSED: [(&[u8], &[u8]); 73] = [
     (b"label Q", b"no 21 unknown net\n"),
 ];
 
+// Whether the line is refused so after a net N and the session, and nothing is changed.
+fn is_refused(
+    alloc: Global,
+    (text, replies): Row<'_>,
+    (line, reply): Row<'_>,
+) -> Result<bool, Fail> {
+    let text = joined(alloc, &[b"net N 4\n", text, b"\n", line, b"\nlabel Z\n"])?;
+    let want = joined(alloc, &[b"ok\n", replies, reply, b"Z=12 {S;A,B}\nok\n"])?;
+    is_answered(alloc, &text, &want, Status::SomeRefused)
+}
+
 #[test]
 fn refused_lines(rt: HostRuntime) -> Result<(), Fail> {
-    let alloc = rt.alloc();
-    for (line, reply) in REFUSED {
-        let mut text = Vec::from_slice(alloc, b"net N 4\n")?;
-        let (front, replies) = session(alloc, SESSION.len())?;
-        text.extend_from_slice(&front)?;
-        text.push(b'\n')?;
-        text.extend_from_slice(line)?;
-        text.extend_from_slice(b"\nlabel Z\n")?;
-        let mut want = Vec::from_slice(alloc, b"ok\n")?;
-        want.extend_from_slice(&replies)?;
-        want.extend_from_slice(reply)?;
-        want.extend_from_slice(b"Z=12 {S;A,B}\nok\n")?;
-        let (status, sink) = ran(alloc, "run", &text, 1024, NEVER, NEVER)?;
-        assert!(rt; status == Status::SomeRefused, "{line:?}");
-        assert!(rt; sink.held() == want.as_slice(), "{line:?}");
+    let text = session(rt.alloc())?;
+    let replies = replies_to(rt.alloc(), SESSION.len())?;
+    for (i, row) in REFUSED.iter().enumerate() {
+        assert!(rt; is_refused(rt.alloc(), (&text, &replies), *row)?, "row {i}");
     }
     Ok(())
 }
 
+// Whether each of the lines is answered `ok`, but for the last, which has the reply.
+fn is_last_refused(alloc: Global, text: &[u8], reply: &[u8]) -> Result<bool, Fail> {
+    let want = accepted(alloc, lines_ended(text).saturating_sub(1), reply)?;
+    is_answered(alloc, text, &want, Status::SomeRefused)
+}
+
 // Puts a line for each number below the count: the front, the number and the rest.
-fn put_lines(text: &mut Vec<u8>, front: &[u8], count: u16, rest: &[u8]) -> Result<(), Fail> {
+fn put_lines(text: &mut Vec<u8>, (front, count, rest): Numbered<'_>) -> Result<(), Fail> {
     for number in 0..count {
         let mut buffer = Buffer::new();
         text.extend_from_slice(front)?;
@@ -177,94 +194,76 @@ fn put_lines(text: &mut Vec<u8>, front: &[u8], count: u16, rest: &[u8]) -> Resul
     Ok(())
 }
 
-// Each of the lines is answered `ok`, but for the last, which has the reply.
-fn last_is_refused(
-    rt: &impl Abort,
-    alloc: Global,
-    text: &[u8],
-    accepted: u16,
-    reply: &[u8],
-) -> Result<(), Fail> {
-    let mut want = Vec::new(alloc);
-    for _line in 0..accepted {
-        want.extend_from_slice(b"ok\n")?;
+// Lines with a number each, and how many they are: what stands in front of the number, and what after it.
+type Numbered<'a> = (&'a [u8], u16, &'a [u8]);
+
+// What is full: the first lines, then such lines with a number each, and the last line, which is refused with the reply.
+const FULL: [(&[u8], Numbered<'_>, &[u8], &[u8]); 7] = [
+    (
+        b"",
+        (b"net N", 256, b" 1\n"),
+        b"net M 1\n",
+        b"no 30 nets full\n",
+    ),
+    // with the most cycles
+    (
+        b"cycles 16\n",
+        (b"net N", 64, b" 1\n"),
+        b"net M 1\n",
+        b"no 32 cells full\n",
+    ),
+    (
+        b"net A 1\nnet B 1\n",
+        (b"buf U", 256, b" A B\n"),
+        b"buf V A B\n",
+        b"no 31 components full\n",
+    ),
+    (
+        b"net A 8\nnet B 8\nbuf U A B\n",
+        (b"stuck U ", 128, b" 2\n"),
+        b"stuck U 128 2\n",
+        b"no 35 modes full\n",
+    ),
+    (
+        b"",
+        (b"define D", 32, b"\n"),
+        b"define D32\n",
+        b"no 36 blocks full\n",
+    ),
+    (
+        b"define D\n",
+        (b"pin D P", 28, b" 1\n"),
+        b"pin D P28 1\n",
+        b"no 37 block full\n",
+    ),
+    (
+        b"define D\npin D P 1\npin D Q 1\n",
+        (b"inside D buf U", 32, b" P Q\n"),
+        b"inside D buf U32 P Q\n",
+        b"no 37 block full\n",
+    ),
+];
+
+#[test]
+fn one_too_many(rt: HostRuntime) -> Result<(), Fail> {
+    for (i, (first, numbered, last, reply)) in FULL.iter().enumerate() {
+        let mut text = Vec::from_slice(rt.alloc(), first)?;
+        put_lines(&mut text, *numbered)?;
+        text.extend_from_slice(last)?;
+        assert!(rt; is_last_refused(rt.alloc(), &text, reply)?, "row {i}");
     }
-    want.extend_from_slice(reply)?;
-    let (status, sink) = ran(alloc, "run", text, 1024, NEVER, NEVER)?;
-    assert!(rt; status == Status::SomeRefused);
-    assert!(rt; sink.held() == want.as_slice());
     Ok(())
-}
-
-#[test]
-fn a_net_too_many(rt: HostRuntime) -> Result<(), Fail> {
-    let alloc = rt.alloc();
-    let mut text = Vec::new(alloc);
-    put_lines(&mut text, b"net N", 256, b" 1\n")?;
-    text.extend_from_slice(b"net M 1\n")?;
-    last_is_refused(&rt, alloc, &text, 256, b"no 30 nets full\n")
-}
-
-// With the most cycles.
-#[test]
-fn a_cell_too_many(rt: HostRuntime) -> Result<(), Fail> {
-    let alloc = rt.alloc();
-    let mut text = Vec::from_slice(alloc, b"cycles 16\n")?;
-    put_lines(&mut text, b"net N", 64, b" 1\n")?;
-    text.extend_from_slice(b"net M 1\n")?;
-    last_is_refused(&rt, alloc, &text, 65, b"no 32 cells full\n")
-}
-
-#[test]
-fn a_component_too_many(rt: HostRuntime) -> Result<(), Fail> {
-    let alloc = rt.alloc();
-    let mut text = Vec::from_slice(alloc, b"net A 1\nnet B 1\n")?;
-    put_lines(&mut text, b"buf U", 256, b" A B\n")?;
-    text.extend_from_slice(b"buf V A B\n")?;
-    last_is_refused(&rt, alloc, &text, 258, b"no 31 components full\n")
 }
 
 // The cell is measured already, and the measurements are full: that comes first.
 #[test]
 fn a_measurement_too_many(rt: HostRuntime) -> Result<(), Fail> {
-    let alloc = rt.alloc();
-    let mut text = Vec::new(alloc);
-    put_lines(&mut text, b"net N", 256, b" 1\n")?;
-    put_lines(&mut text, b"measure N", 256, b" 1\n")?;
+    let mut text = Vec::new(rt.alloc());
+    put_lines(&mut text, (b"net N", 256, b" 1\n"))?;
+    put_lines(&mut text, (b"measure N", 256, b" 1\n"))?;
     text.extend_from_slice(b"measure N0 1\n")?;
-    last_is_refused(&rt, alloc, &text, 512, b"no 33 measurements full\n")
-}
-
-#[test]
-fn a_mode_too_many(rt: HostRuntime) -> Result<(), Fail> {
-    let alloc = rt.alloc();
-    let mut text = Vec::from_slice(alloc, b"net A 8\nnet B 8\nbuf U A B\n")?;
-    put_lines(&mut text, b"stuck U ", 129, b" 2\n")?;
-    last_is_refused(&rt, alloc, &text, 131, b"no 35 modes full\n")
-}
-
-#[test]
-fn a_definition_too_many(rt: HostRuntime) -> Result<(), Fail> {
-    let alloc = rt.alloc();
-    let mut text = Vec::new(alloc);
-    put_lines(&mut text, b"define D", 33, b"\n")?;
-    last_is_refused(&rt, alloc, &text, 32, b"no 36 blocks full\n")
-}
-
-#[test]
-fn a_pin_too_many(rt: HostRuntime) -> Result<(), Fail> {
-    let alloc = rt.alloc();
-    let mut text = Vec::from_slice(alloc, b"define D\n")?;
-    put_lines(&mut text, b"pin D P", 29, b" 1\n")?;
-    last_is_refused(&rt, alloc, &text, 29, b"no 37 block full\n")
-}
-
-#[test]
-fn an_inner_component_too_many(rt: HostRuntime) -> Result<(), Fail> {
-    let alloc = rt.alloc();
-    let mut text = Vec::from_slice(alloc, b"define D\npin D P 1\npin D Q 1\n")?;
-    put_lines(&mut text, b"inside D buf U", 33, b" P Q\n")?;
-    last_is_refused(&rt, alloc, &text, 35, b"no 37 block full\n")
+    assert!(rt; is_last_refused(rt.alloc(), &text, b"no 33 measurements full\n")?);
+    Ok(())
 }
 
 // Puts the lines of two components that cannot both be right.
@@ -282,103 +281,102 @@ fn put_either(text: &mut Vec<u8>, number: u16) -> Result<(), Fail> {
 // Fourteen times one of two: 2^14 diagnoses, and 10,000 are listed.
 #[test]
 fn diagnoses_too_many(rt: HostRuntime) -> Result<(), Fail> {
-    let alloc = rt.alloc();
-    let mut text = Vec::new(alloc);
+    let mut text = Vec::new(rt.alloc());
     for number in 0..14 {
         put_either(&mut text, number)?;
     }
     text.extend_from_slice(b"diagnose\n")?;
-    last_is_refused(&rt, alloc, &text, 42, b"no 45 too many diagnoses\n")
+    assert!(rt; is_last_refused(rt.alloc(), &text, b"no 45 too many diagnoses\n")?);
+    Ok(())
 }
 
-// The line, and then the same line with a byte more, that is refused.
-fn longest(
-    rt: &impl Abort,
-    alloc: Global,
+// Puts a line: the front, the byte so many times and the rest.
+fn put_long(
+    text: &mut Vec<u8>,
     front: &[u8],
     byte: u8,
-    count: u16,
+    count: usize,
     rest: &[u8],
-    reply: &[u8],
 ) -> Result<(), Fail> {
-    let mut text = Vec::new(alloc);
-    for more in 0..2 {
-        text.extend_from_slice(front)?;
-        for _byte in 0..usize::from(count) + more {
-            text.push(byte)?;
-        }
-        text.extend_from_slice(rest)?;
+    text.extend_from_slice(front)?;
+    for _byte in 0..count {
+        text.push(byte)?;
     }
-    last_is_refused(rt, alloc, &text, 1, reply)
+    text.extend_from_slice(rest)?;
+    Ok(())
 }
 
-#[test]
-fn the_longest_name(rt: HostRuntime) -> Result<(), Fail> {
-    longest(
-        &rt,
-        rt.alloc(),
-        b"net ",
-        b'A',
-        32,
-        b" 4\n",
-        b"no 14 bad name\n",
-    )
-}
+// Lines as long as they may be, by a byte that stands so many times between a front and a rest; and the reply to the same
+// line with a byte more.
+const LONGEST: [(&[u8], u8, usize, &[u8], &[u8]); 2] = [
+    (b"net ", b'A', 32, b" 4\n", b"no 14 bad name\n"),
+    (b"net A 4", b' ', 1024 - 7, b"\n", b"no 10 line too long\n"),
+];
 
 #[test]
-fn the_longest_line(rt: HostRuntime) -> Result<(), Fail> {
-    longest(
-        &rt,
-        rt.alloc(),
-        b"net A 4",
-        b' ',
-        1024 - 7,
-        b"\n",
-        b"no 10 line too long\n",
-    )
+fn a_byte_too_many(rt: HostRuntime) -> Result<(), Fail> {
+    for (front, byte, count, rest, reply) in &LONGEST {
+        let mut text = Vec::new(rt.alloc());
+        put_long(&mut text, front, *byte, *count, rest)?;
+        put_long(&mut text, front, *byte, count.saturating_add(1), rest)?;
+        assert!(rt;
+            is_last_refused(rt.alloc(), &text, reply)?,
+            "{} times",
+            *count
+        );
+    }
+    Ok(())
 }
+
+// A line of so many bytes, the first of which may make it a comment, and its reply.
+const COMMENTS: [(u8, usize, &[u8], Status); 3] = [
+    (b'x', 1024, b"no 12 unknown command\n", Status::SomeRefused),
+    (b'#', 1024, b"", Status::Done),
+    (b'#', 1025, b"no 10 line too long\n", Status::SomeRefused),
+];
 
 #[test]
 fn the_longest_comment(rt: HostRuntime) -> Result<(), Fail> {
-    let alloc = rt.alloc();
-    let mut text = vec![in alloc; b'x'; 1024]?;
-    let (_, sink) = ran(alloc, "run", &text, 1024, NEVER, NEVER)?;
-    assert!(rt; sink.held() == b"no 12 unknown command\n".as_slice());
-    text[0] = b'#';
-    let (status, sink) = ran(alloc, "run", &text, 1024, NEVER, NEVER)?;
-    assert!(rt; status == Status::Done);
-    assert!(rt; sink.held().is_empty());
-    text.push(b'x')?;
-    let (status, sink) = ran(alloc, "run", &text, 1024, NEVER, NEVER)?;
-    assert!(rt; status == Status::SomeRefused);
-    assert!(rt; sink.held() == b"no 10 line too long\n".as_slice());
+    for (first, len, reply, status) in &COMMENTS {
+        let mut text = Vec::new(rt.alloc());
+        put_long(&mut text, &[*first], b'x', len.saturating_sub(1), b"")?;
+        assert!(rt;
+            is_answered(rt.alloc(), &text, reply, *status)?,
+            "{} bytes",
+            *len
+        );
+    }
     Ok(())
 }
 
 // Lines that ask for nothing, and such as are near them.
-const NEARLY_SILENT: [(&[u8], &[u8]); 8] = [
-    (b"", b""),
-    (b"\n", b""),
-    (b" #", b""),
-    (b"\t # ~\r\n\n", b""),
-    (b"a #", b"no 12 unknown command\n"),
-    (b"#\x0b", b"no 11 not printable ASCII\n"),
-    (b"# \x7f\n", b"no 11 not printable ASCII\n"),
-    (b"#\x80", b"no 11 not printable ASCII\n"),
+const NEARLY_SILENT: [(&[u8], &[u8], Status); 8] = [
+    (b"", b"", Status::Done),
+    (b"\n", b"", Status::Done),
+    (b" #", b"", Status::Done),
+    (b"\t # ~\r\n\n", b"", Status::Done),
+    (b"a #", b"no 12 unknown command\n", Status::SomeRefused),
+    (
+        b"#\x0b",
+        b"no 11 not printable ASCII\n",
+        Status::SomeRefused,
+    ),
+    (
+        b"# \x7f\n",
+        b"no 11 not printable ASCII\n",
+        Status::SomeRefused,
+    ),
+    (
+        b"#\x80",
+        b"no 11 not printable ASCII\n",
+        Status::SomeRefused,
+    ),
 ];
 
 #[test]
 fn silent_lines(rt: HostRuntime) -> Result<(), Fail> {
-    let alloc = rt.alloc();
-    for (i, (text, reply)) in NEARLY_SILENT.iter().enumerate() {
-        let (status, sink) = ran(alloc, "run", text, 1024, NEVER, NEVER)?;
-        let want = if reply.is_empty() {
-            Status::Done
-        } else {
-            Status::SomeRefused
-        };
-        assert!(rt; status == want, "text {i}");
-        assert!(rt; sink.held() == *reply, "text {i}");
+    for (i, (text, reply, status)) in NEARLY_SILENT.iter().enumerate() {
+        assert!(rt; is_answered(rt.alloc(), text, reply, *status)?, "text {i}");
     }
     Ok(())
 }

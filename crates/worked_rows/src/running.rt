@@ -26,20 +26,43 @@ pub(crate) const SESSION: [(&[u8], &[u8]); 9] = [
     (b"label Z", b"Z=12 {S;A,B}\nok\n"),
 ];
 
-// Its bytes, and the replies to its first lines.
-pub(crate) fn session(alloc: Global, lines: usize) -> Result<(Vec<u8>, Vec<u8>), Fail> {
+// These pieces, one after another.
+pub(crate) fn joined(alloc: Global, pieces: &[&[u8]]) -> Result<Vec<u8>, Fail> {
     let mut text = Vec::new(alloc);
-    let mut replies = Vec::new(alloc);
-    for (i, (line, reply)) in SESSION.iter().enumerate() {
-        if i != 0 {
-            text.push(b'\n')?;
-        }
-        text.extend_from_slice(line)?;
-        if i < lines {
-            replies.extend_from_slice(reply)?;
-        }
+    for piece in pieces {
+        text.extend_from_slice(piece)?;
     }
-    Ok((text, replies))
+    Ok(text)
+}
+
+// The reply `ok` so many times, and then the rest.
+pub(crate) fn accepted(alloc: Global, count: usize, rest: &[u8]) -> Result<Vec<u8>, Fail> {
+    let mut replies = Vec::new(alloc);
+    for _line in 0..count {
+        replies.extend_from_slice(b"ok\n")?;
+    }
+    replies.extend_from_slice(rest)?;
+    Ok(replies)
+}
+
+// The bytes of `SESSION`.
+pub(crate) fn session(alloc: Global) -> Result<Vec<u8>, Fail> {
+    let mut text = Vec::new(alloc);
+    for (i, (line, _)) in SESSION.iter().enumerate() {
+        let newline: &[u8] = if i == 0 { b"" } else { b"\n" };
+        text.extend_from_slice(newline)?;
+        text.extend_from_slice(line)?;
+    }
+    Ok(text)
+}
+
+// The replies to its first lines.
+pub(crate) fn replies_to(alloc: Global, lines: usize) -> Result<Vec<u8>, Fail> {
+    let mut replies = Vec::new(alloc);
+    for (_, reply) in SESSION.iter().take(lines) {
+        replies.extend_from_slice(reply)?;
+    }
+    Ok(replies)
 }
 
 // How many lines end among these bytes.
@@ -66,42 +89,54 @@ pub(crate) fn ran(
     Ok((status, sink))
 }
 
+// Whether the session ends with the status, and these are the replies to its lines.
+pub(crate) fn is_answered(
+    alloc: Global,
+    text: &[u8],
+    replies: &[u8],
+    status: Status,
+) -> Result<bool, Fail> {
+    let (ended, sink) = ran(alloc, "run", text, 1024, NEVER, NEVER)?;
+    Ok(ended == status && sink.held() == replies)
+}
+
+// Lines, and the replies to them.
+pub(crate) type Row<'a> = (&'a [u8], &'a [u8]);
+
+// Whether the row's lines have their replies after the lines in front.
+fn is_row_answered(alloc: Global, front: Row<'_>, row: Row<'_>) -> Result<bool, Fail> {
+    let text = joined(alloc, &[front.0, row.0])?;
+    let want = joined(alloc, &[front.1, row.1])?;
+    let (_, sink) = ran(alloc, "run", &text, 1024, NEVER, NEVER)?;
+    Ok(sink.held() == want.as_slice())
+}
+
 // Runs each row after the lines in front.
 pub(crate) fn run_rows(
     rt: &impl Abort,
     alloc: Global,
-    front: (&[u8], &[u8]),
-    rows: &[(&[u8], &[u8])],
+    front: Row<'_>,
+    rows: &[Row<'_>],
 ) -> Result<(), Fail> {
-    for (i, (lines, replies)) in rows.iter().enumerate() {
-        let mut text = Vec::from_slice(alloc, front.0)?;
-        text.extend_from_slice(lines)?;
-        let mut want = Vec::from_slice(alloc, front.1)?;
-        want.extend_from_slice(replies)?;
-        let (_, sink) = ran(alloc, "run", &text, 1024, NEVER, NEVER)?;
-        assert!(rt; sink.held() == want.as_slice(), "row {i}");
+    for (i, row) in rows.iter().enumerate() {
+        assert!(rt; is_row_answered(alloc, front, *row)?, "row {i}");
     }
     Ok(())
 }
 
-// Asks each row's questions after its lines. Each of the lines is answered `ok`, and the replies are those to the
-// questions alone.
-pub(crate) fn ask_rows(
-    rt: &impl Abort,
-    alloc: Global,
-    rows: &[(&[u8], &[u8], &[u8])],
-) -> Result<(), Fail> {
-    for (i, (lines, questions, replies)) in rows.iter().enumerate() {
-        let mut text = Vec::from_slice(alloc, lines)?;
-        text.extend_from_slice(questions)?;
-        let mut want = Vec::new(alloc);
-        for _line in 0..lines_ended(lines) {
-            want.extend_from_slice(b"ok\n")?;
-        }
-        want.extend_from_slice(replies)?;
-        let (status, sink) = ran(alloc, "run", &text, 1024, NEVER, NEVER)?;
-        assert!(rt; status == Status::Done, "row {i}");
-        assert!(rt; sink.held() == want.as_slice(), "row {i}");
+// Lines that are each answered `ok`, questions, and the replies to the questions alone.
+pub(crate) type Asked<'a> = (&'a [u8], &'a [u8], &'a [u8]);
+
+fn is_asked(alloc: Global, (lines, questions, replies): Asked<'_>) -> Result<bool, Fail> {
+    let text = joined(alloc, &[lines, questions])?;
+    let want = accepted(alloc, lines_ended(lines), replies)?;
+    is_answered(alloc, &text, &want, Status::Done)
+}
+
+// Asks each row's questions after its lines.
+pub(crate) fn ask_rows(rt: &impl Abort, alloc: Global, rows: &[Asked<'_>]) -> Result<(), Fail> {
+    for (i, row) in rows.iter().enumerate() {
+        assert!(rt; is_asked(alloc, *row)?, "row {i}");
     }
     Ok(())
 }

@@ -1,6 +1,6 @@
 // Sessions that go back: measurements retracted and put again, changes undone.
 
-use crate::running::{NEVER, ran, run_rows};
+use crate::running::{is_answered, run_rows};
 use bench_cli::Status;
 use std::test::Fail;
 
@@ -114,8 +114,6 @@ fn as_many_as_are_kept(rt: HostRuntime) -> Result<(), Fail> {
     }
     text.extend_from_slice(b"undo\nlabel N\n")?;
     want.extend_from_slice(b"no 42 nothing to undo\nok\n")?;
-    let (status, sink) = ran(alloc, "run", &text, 1024, NEVER, NEVER)?;
-    assert!(rt; status == Status::SomeRefused);
-    assert!(rt; sink.held() == want.as_slice());
+    assert!(rt; is_answered(alloc, &text, &want, Status::SomeRefused)?);
     Ok(())
 }

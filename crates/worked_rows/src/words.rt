@@ -2,19 +2,36 @@
 
 use crate::running::{NEVER, ran};
 use bench_cli::Status;
+use std::alloc::Global;
 use std::test::Fail;
+
+// What is said where the words ask for nothing that there is.
+const USAGE: &[u8] = b"usage: gde run | run order N | make N SEED | audit\n";
+
+// Whether the word brings this about, where the first read fails, or the write that is counted.
+fn has_usage(
+    alloc: Global,
+    word: &str,
+    (read, write): (u64, u64),
+    status: Status,
+    written: &[u8],
+) -> Result<bool, Fail> {
+    let (ended, sink) = ran(alloc, word, b"net A 8\n", 7, read, write)?;
+    Ok(ended == status && sink.held() == written)
+}
 
 #[test]
 fn other_words(rt: HostRuntime) -> Result<(), Fail> {
     let alloc = rt.alloc();
-    let usage = b"usage: gde run | run order N | make N SEED | audit\n".as_slice();
     for word in ["", "Run", "run ", "runs", "make"] {
-        let (status, sink) = ran(alloc, word, b"net A 8\n", 7, 1, NEVER)?;
-        assert!(rt; status == Status::Usage, "{word}");
-        assert!(rt; sink.held() == usage, "{word}");
-        let (status, sink) = ran(alloc, word, b"net A 8\n", 7, NEVER, 1)?;
-        assert!(rt; status == Status::WriteFault, "{word}");
-        assert!(rt; sink.held().is_empty(), "{word}");
+        assert!(rt;
+            has_usage(alloc, word, (1, NEVER), Status::Usage, USAGE)?,
+            "{word}"
+        );
+        assert!(rt;
+            has_usage(alloc, word, (NEVER, 1), Status::WriteFault, b"")?,
+            "{word}"
+        );
     }
     Ok(())
 }
