@@ -269,12 +269,7 @@ fn put_ending<K: Sink>(sink: &mut K, failed: bool, present: &Present, ending: &E
 }
 
 // The line of the environment that a derivation is under.
-fn put_under<K: Sink>(
-    sink: &mut K,
-    failed: bool,
-    present: &Present,
-    chosen: &Chosen,
-) -> bool
+fn put_under<K: Sink>(sink: &mut K, failed: bool, present: &Present, chosen: &Chosen) -> bool
     ensures { Puts failed result (K.told sink.old) (K.told sink.new) (under_line present.now (chosen_places chosen.now)) }
 {
     let failed = put(sink, failed, b"under ");

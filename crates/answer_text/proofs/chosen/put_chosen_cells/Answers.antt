@@ -24,4 +24,3 @@ pub returns : goal.returns
 returns g c =
     Puts-as (ap (λ readings. join_with_byte 44 (cells_in c.args.present.now (chosen_places c.args.chosen.now) readings)) (take_all c.loop-place.place c.args.present.now.readings (omega (arith, c.readings-place-end.ensures.value))))
     c.loop-place.invariant.puts
-

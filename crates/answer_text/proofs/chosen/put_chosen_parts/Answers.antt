@@ -24,4 +24,3 @@ pub returns : goal.returns
 returns g c =
     Puts-as (ap (λ parts. join_with_byte 44 (component_names (parts_in (chosen_places c.args.chosen.now)) 0 parts)) (take_all c.loop-place.place c.args.present.now.parts (omega (arith, c.parts-place-end.ensures.value))))
     c.loop-place.invariant.puts
-
