@@ -1,7 +1,9 @@
 // Sessions that go back: measurements retracted and put again, changes undone.
 
-use crate::running::{is_answered, run_rows};
-use bench_cli::Status;
+use crate::running::{is_answered, lines_ended, run_rows};
+use bench_cli::{Status, gde};
+use bench_io::{MemorySink, MemorySource};
+use std::alloc::Global;
 use std::test::Fail;
 
 // The nets, components and measurements of the polybox, each line answered `ok`.
@@ -115,5 +117,45 @@ fn as_many_as_are_kept(rt: HostRuntime) -> Result<(), Fail> {
     text.extend_from_slice(b"undo\nlabel N\n")?;
     want.extend_from_slice(b"no 42 nothing to undo\nok\n")?;
     assert!(rt; is_answered(alloc, &text, &want, Status::SomeRefused)?);
+    Ok(())
+}
+
+// A session that goes on, goes back, and asks, so many times.
+fn mixed(alloc: Global, times: usize) -> Result<Vec<u8>, Fail> {
+    let mut text = Vec::from_slice(alloc, POLYBOX)?;
+    for _time in 0..times {
+        for (lines, _) in &AFTER_POLYBOX {
+            text.extend_from_slice(lines)?;
+        }
+        text.extend_from_slice(
+            b"retract G\nmeasure X 4\nlabel G\nundo\nnet N 4\nconst K N 3\nundo\nundo\nundo\nfirst 3\n",
+        )?;
+    }
+    Ok(text)
+}
+
+// What a session writes whose labels are worked out in the order of the words.
+fn written(alloc: Global, words: &[&str], text: &[u8]) -> Result<MemorySink, Fail> {
+    let mut source = MemorySource::new(Vec::from_slice(alloc, text)?, 1024, Vec::new(alloc));
+    let mut sink = MemorySink::open(alloc, 100_000, Vec::new(alloc))?;
+    let mut given = Vec::new(alloc);
+    for word in words {
+        given.push(String::from_str(alloc, word)?)?;
+    }
+    gde(alloc, &given, &mut source, &mut sink);
+    Ok(sink)
+}
+
+// In every order of propagation the replies are the same.
+#[test]
+fn in_every_order(rt: HostRuntime) -> Result<(), Fail> {
+    let alloc = rt.alloc();
+    let text = mixed(alloc, 8)?;
+    let plain = written(alloc, &["run"], &text)?;
+    assert!(rt; lines_ended(plain.held()) > 300);
+    for seed in ["1", "2", "7", "4294967295", "0000000042"] {
+        let ordered = written(alloc, &["run", "order", seed], &text)?;
+        assert!(rt; ordered.held() == plain.held(), "{seed}");
+    }
     Ok(())
 }
