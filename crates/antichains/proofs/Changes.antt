@@ -7,7 +7,7 @@ use Rattle.std.proofs.lemmas.Option.{slice_get_within, slice_get-get_or}
 use Rattle.std.specs.List.{filter, slice_get}
 use Rattle.environment_sets.specs.declared.environment.Env.{Env}
 use Rattle.environment_sets.specs.declared.environment.TheConstants.{SLOTS}
-use Rattle.environment_sets.specs.Sets.{Set, ◌⊆◌, IsBelow, is_within}
+use Rattle.environment_sets.specs.Sets.{Set, ◌⊆◌, IsBelow, size_below, is_within}
 use Rattle.environment_sets.specs.Families.{IsCovered, IsAntichain, Adds, Drops, AreInside}
 use Rattle.environment_sets.specs.Members.{members, sets, HasMember}
 use Rattle.environment_sets.specs.Lists.{IsIn, AreDistinct, IsRoster}
@@ -15,6 +15,8 @@ use Rattle.environment_sets.proofs.Families.{Adds-antichain, Drops-antichain}
 use Rattle.environment_sets.proofs.Listings.{sets-push, IsIn-push, IsIn-front, IsIn-last, IsIn-filter, IsIn-get_or, IsIn-kept, IsRising-filter, map-filter}
 use Rattle.environment_sets.proofs.Membership.{AreDistinct-push, IsIn-map, map-IsIn, slice_get-IsIn}
 use Rattle.environment_sets.proofs.Slots.{slots_are_below}
+use Rattle.antichains.specs.Largest.{AreAtMost}
+use Rattle.antichains.proofs.Larger.{as_large, filter_keeps}
 use Rattle.environment_sets.proofs.Within.{within_holds, holds_within}
 
 -- the test that a set does not contain the environment
@@ -54,15 +56,23 @@ drops_over-left e old new left = drops-left (leaves_out e) (λ F. members e ⊆ 
 pub drops_slot-left : (slot : ℕ) (old new : List Env) → IsLeft (lacks slot) old new → Drops (IsIn (sets old)) (IsIn (sets new)) (λ F. IsTrue (F slot))
 drops_slot-left slot old new left = drops-left (lacks slot) (λ F. IsTrue (F slot)) (λ F h k. both_ways (F slot) (not-true (F slot) h) k) (λ F h. not_from_false (F slot) (false_from_ne_true (F slot) h)) old new left
 
--- what the list of an antichain keeps: no set stands twice, and none contains another
-abbrev pub ListsAntichain : List Env → Type 0
-ListsAntichain es = AreDistinct (sets es) × IsAntichain (HasMember es)
+-- what the list of an antichain keeps: no set stands twice, none contains another, and none has more slots than the number
+abbrev pub ListsAntichain : ℕ → List Env → Type 0
+ListsAntichain n es = AreDistinct (sets es) × IsAntichain (HasMember es) × AreAtMost n (HasMember es)
 
-pub antichain-left : (test : Set ℕ → Bool) (P : Set ℕ → Type 0) (old new : List Env) → IsLeft test old new → Drops (HasMember old) (HasMember new) P → ListsAntichain old → ListsAntichain new
-antichain-left test P old new left drops (distinct, antichain) = (
+pub antichain-left : (test : Set ℕ → Bool) (P : Set ℕ → Type 0) (n : ℕ) (old new : List Env) → IsLeft test old new → Drops (HasMember old) (HasMember new) P → ListsAntichain n old → ListsAntichain n new
+antichain-left test P n old new left drops (distinct, antichain, at_most) = (
   subst AreDistinct (sym (sets-left test old new left)) (IsRising-filter test (λ x y. x ≡ y → ⊥) (sets old) distinct),
   Drops-antichain (HasMember old) (HasMember new) P drops antichain,
+  λ E h. at_most E ((drops E).0 h).0,
 )
+
+-- where none has more slots than the environment, and none is a subset of it, none contains it
+pub none_left_out : (e : Env) (es : List Env) (n : ℕ) → n ≤ size_below SLOTS (members e) → AreAtMost n (HasMember es) → (IsCovered (HasMember es) (members e) → ⊥) → es ≡ filter (λ m. leaves_out e (members m)) es
+none_left_out e es n few at_most uncovered = sym (filter_keeps (λ m. leaves_out e (members m)) es (λ m i. holds_leaves_out e (members m) (λ within.
+    let there : HasMember es (members m) = map-IsIn members es m i in
+    let size : size_below SLOTS (members m) ≤ n = at_most (members m) there in
+    uncovered (members m, there, as_large (members e) (members m) within SLOTS (slots_are_below m) (omega (arith, size, few))))))
 
 pub adds-left : (e : Env) (old left new : List Env) → IsLeft (leaves_out e) old left → new ≡ left ++ e ∷ [] → Adds (IsIn (sets old)) (IsIn (sets new)) (members e)
 adds-left e old left new is pushed =
@@ -71,12 +81,17 @@ adds-left e old left new is pushed =
       λ h. elim h [ inl same ↦ IsIn-last (sets left) (members e) F same | inr k ↦ IsIn-front (sets left) (members e) F ((drops_over-left e old left is F).1 k) ],
     ))
 
-pub antichain-added : (e : Env) (old left new : List Env) → IsLeft (leaves_out e) old left → new ≡ left ++ e ∷ [] → (IsCovered (HasMember old) (members e) → ⊥) → ListsAntichain old → ListsAntichain new
-antichain-added e old left new is pushed uncovered (distinct, antichain) =
-    let kept : ListsAntichain left = antichain-left (leaves_out e) (λ F. members e ⊆ F) old left is (drops_over-left e old left is) (distinct, antichain) in
+pub antichain-added :
+    (e : Env) (old left new : List Env) (n m : ℕ) → IsLeft (leaves_out e) old left → new ≡ left ++ e ∷ [] → (IsCovered (HasMember old) (members e) → ⊥) → n ≤ m → size_below SLOTS (members e) ≤ m → ListsAntichain n old → ListsAntichain m new
+antichain-added e old left new n m is pushed uncovered more size (distinct, antichain, at_most) =
+    let kept : ListsAntichain n left = antichain-left (leaves_out e) (λ F. members e ⊆ F) n old left is (drops_over-left e old left is) (distinct, antichain, at_most) in
     let apart : IsIn (sets left) (members e) → ⊥ = λ h. ((drops_over-left e old left is (members e)).0 h).1 (λ k inside. inside) in (
       subst AreDistinct (sym (ap sets pushed ∙ sets-push left e)) (AreDistinct-push (sets left) (members e) kept.0 apart),
       Adds-antichain (HasMember old) (HasMember new) (members e) (adds-left e old left new is pushed) uncovered antichain,
+      λ E h. elim ((adds-left e old left new is pushed E).0 h) [
+        | inl same ↦ let P : Set ℕ → Type 0 = λ F. size_below SLOTS F ≤ m in subst P same size
+        | inr k ↦ let low : size_below SLOTS E ≤ n = at_most E k.0 in omega (arith, low, more)
+      ],
     )
 
 -- the place of an environment of the list that is a subset of this one

@@ -1,2 +1,3 @@
+pub mod Larger
 pub mod Changes
 pub mod Nearer

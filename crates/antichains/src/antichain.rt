@@ -1,12 +1,13 @@
 // Sets of environments, none of which contains another.
-ghost use Rattle.std.specs.Prelude.{◌≡◌, ◌<◌, ◌↔◌, IsTrue, OnOk, OnErr, IfOk, IfSome, MatchBool, MatchOption, Some, Ok, []};
+ghost use Rattle.std.specs.Prelude.{◌≡◌, ◌<◌, ◌↔◌, IsTrue, OnOk, OnErr, IfOk, IfSome, MatchBool, MatchOption, Some, Ok, [], filter, not, vec_len, vec_capacity};
 ghost use Rattle.std.specs.Option.{ForSome, option_map, option_copied};
-ghost use Rattle.environment_sets.specs.Sets.{◌⊆◌};
+ghost use Rattle.environment_sets.specs.Sets.{◌⊆◌, is_within};
 ghost use Rattle.environment_sets.specs.Lists.{IsRoster};
 ghost use Rattle.environment_sets.specs.Members.{members, sets, HasMember};
 ghost use Rattle.environment_sets.specs.Families.{IsCovered, IsAntichain, Adds, Drops, AreInside};
 ghost use Rattle.environment_sets.specs.Orders.{ListsAll, IsOrder};
 ghost use Rattle.environment_sets.specs.Walks.{ComesAfter, GivesNextEnv, envs_left};
+ghost use Rattle.antichains.specs.Largest.{AreAtMost};
 ghost use Rattle.antichains.specs.Nearest.{IsBehind, IsNearer, IsPassed};
 
 use environment_sets::{Env, SLOTS};
@@ -27,6 +28,8 @@ pub enum Inserted {
 #[derive(Drop)]
 pub struct Antichain {
     list: Vec<Env>,
+    // No member has more slots. Nothing that has as many is contained in another member.
+    largest: u16,
 }
 
 impl Model for Antichain {
@@ -35,12 +38,13 @@ impl Model for Antichain {
     ghost use Rattle.environment_sets.specs.Families.{IsAntichain};
     ghost use Rattle.environment_sets.specs.Lists.{AreDistinct};
     ghost use Rattle.environment_sets.specs.Members.{sets, HasMember};
+    ghost use Rattle.antichains.specs.Largest.{AreAtMost};
 
     ghost Value = { List Env };
 
     ghost view = { λ a. a.list.items };
 
-    ghost invariant = { λ a. AreDistinct (sets a.list.items) × IsAntichain (HasMember a.list.items) };
+    ghost invariant = { λ a. AreDistinct (sets a.list.items) × IsAntichain (HasMember a.list.items) × AreAtMost a.largest (HasMember a.list.items) };
 }
 
 impl Antichain {
@@ -50,6 +54,7 @@ impl Antichain {
     {
         Antichain {
             list: Vec::new(alloc),
+            largest: 0,
         }
     }
 
@@ -87,7 +92,8 @@ impl Antichain {
         ensures antichain { IsAntichain (HasMember self.new) }
     {
         self.list.reserve(1)?;
-        self.list.retain(|kept| !env.is_subset(kept));
+        drop_supersets(&mut self.list, &env, self.largest);
+        self.largest = self.largest.max(env.size());
         match self.list.push(env) {
             Ok(()) => Ok(()),
             Err(_) => unreachable!(),
@@ -188,6 +194,19 @@ impl Antichain {
             }
         }
         next
+    }
+}
+
+// Drops the environments that contain this one. Where none has more slots than this one, there are none.
+fn drop_supersets(list: &mut Vec<Env>, env: &Env, largest: u16)
+    requires out { IsCovered (HasMember list.old.items) (members env.now) → ⊥ }
+    requires at_most { AreAtMost largest (HasMember list.old.items) }
+    requires room { vec_len list.old < vec_capacity list.old }
+    ensures left { list.new.items ≡ filter (λ e. not (is_within SLOTS (members env.now) (members e))) list.old.items }
+    ensures room { vec_len list.new < vec_capacity list.new }
+{
+    if env.size() < largest {
+        list.retain(|kept| !env.is_subset(kept));
     }
 }
 

@@ -14,7 +14,7 @@ pub invariant_of-self : goal.invariant_of-self
 invariant_of-self c =
     let old = c.self.inside.list.items in
     let new = c.retain.new.self.items in
-    antichain-left (leaves_out c.args.env.now) (λ F. members c.args.env.now ⊆ F) old new (left c) (drops_over-left c.args.env.now old new (left c)) c.self.invariant
+    antichain-left (leaves_out c.args.env.now) (λ F. members c.args.env.now ⊆ F) c.self.inside.largest old new (left c) (drops_over-left c.args.env.now old new (left c)) c.self.invariant
 
 pub returns : goal.returns
 returns c =

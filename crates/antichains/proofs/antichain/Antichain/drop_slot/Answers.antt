@@ -13,7 +13,7 @@ pub invariant_of-self : goal.invariant_of-self
 invariant_of-self c =
     let old = c.self.inside.list.items in
     let new = c.retain.new.self.items in
-    antichain-left (lacks c.args.slot) (λ F. IsTrue (F c.args.slot)) old new (left c) (drops_slot-left c.args.slot old new (left c)) c.self.invariant
+    antichain-left (lacks c.args.slot) (λ F. IsTrue (F c.args.slot)) c.self.inside.largest old new (left c) (drops_slot-left c.args.slot old new (left c)) c.self.invariant
 
 pub returns : goal.returns
 returns c =
