@@ -1,6 +1,6 @@
 -- What holds of the lists, kept by each step.
-use Rattle.std.proofs.Common.{◌≡◌, ℕ, ◌+◌, ◌*◌, ◌^◌, ◌<◌, ◌⊎◌, inl, inr, ◌||◌, IsTrue, refl, sym, ap, subst, ◌∙◌, List, [], ◌∷◌, ◌++◌, map, filter, Option, Some, None, arith}
-use Rattle.std.proofs.lemmas.Bool.{or_cases, or_left, or_right}
+use Rattle.std.proofs.Common.{◌≡◌, ℕ, ◌+◌, ◌*◌, ◌^◌, ◌<◌, ◌⊎◌, inl, inr, ◌||◌, Bool, true, false, IsTrue, refl, sym, ap, subst, ◌∙◌, List, [], ◌∷◌, ◌++◌, filter, Option, Some, None, arith}
+use Rattle.std.proofs.lemmas.Bool.{and_from, and_parts, or_cases, or_left, or_right}
 use Rattle.environment_sets.proofs.Listings.{IsIn-filter, IsIn-kept}
 use Rattle.environment_sets.proofs.Membership.{IsIn-append, IsIn-left, IsIn-map, IsIn-right, map-IsIn}
 use Rattle.circuit_model.specs.declared.model.Fact.{Fact}
@@ -21,7 +21,7 @@ use Rattle.label_engine.specs.declared.nodes.Insertion.{Insertion}
 use Rattle.inference_search.specs.declared.inferred.Inferred.{Inferred}
 use Rattle.label_engine.specs.declared.update.Pending.{Pending}
 use Rattle.label_engine.specs.Nodes.{facts_of, KeptIn, reaches}
-use Rattle.label_engine.specs.Update.{is_same_target, goes_from, AreNeeded, DueIn, WaitsIn, Holds, item_at, items_at, items_for}
+use Rattle.label_engine.specs.Update.{is_same_target, goes_from, AreNeeded, DueIn, WaitsIn, Holds, ends_in, goes_to, item_at, items_to, items_at, items_for}
 use Rattle.assumption_slots.specs.Slots.{stock}
 use Rattle.inference_search.specs.Inferences.{facts, inference, RecordedIn}
 use Rattle.inference_search.specs.Found.{AreFound}
@@ -100,24 +100,46 @@ module _ (slots : List (Option Assumption)) (slot : ℕ) (labels : Nodes) (recor
       used (Some a) (Some b) f (inr (inl e)) = or_right _ _ (target_same (Some b) (Some f) (ap (λ x. Some x) e))
       used (Some a) (Some b) f (inr (inr h)) = absurd h
 
+      item_to : (clash : Bool) (e : Env) (f : Fact) (i : Inferred) → IsIn recorded i → IsTrue (ends_in clash i.to) → IsTrue (goes_from f i) → IsIn (items_to clash f e recorded) (item_at f e i)
+      item_to clash e f i r ends u = map-IsIn (item_at f e) (filter (goes_to clash f) recorded) i (IsIn-kept (goes_to clash f) recorded i r (and_from _ _ ends u))
+
+      ends_somehow : (t : Target) → IsTrue (ends_in false t) ⊎ IsTrue (ends_in true t)
+      ends_somehow None = inr refl
+      ends_somehow (Some f) = inl refl
+
       item : (t : Target) (e : Env) (j : RecordedInference) (f : Fact) → RecordedIn recorded j → t ≡ Some f → IsIn j.from f → WaitsIn (items_at t e recorded) j f (members e)
       item None e j f r same i = absurd (cc)
       item (Some g) e j f r same i =
           let gf : g ≡ f = cc in
           let u : IsTrue (goes_from f r.0) = used r.0.first r.0.second f (let P : RecordedInference → Type 0 = λ x. IsIn x.from f in subst P (sym r.2) i) in
-          let P : Fact → Type 0 = λ x. IsIn (map (item_at x e) (filter (goes_from x) recorded)) (item_at f e r.0) in
-          (item_at f e r.0, subst P (sym gf) (map-IsIn (item_at f e) (filter (goes_from f) recorded) r.0 (IsIn-kept (goes_from f) recorded r.0 r.1 u)), r.2, refl, refl)
+          let there : IsIn (items_at (Some f) e recorded) (item_at f e r.0) =
+          elim (ends_somehow r.0.to) [
+            | inl value ↦ IsIn-left (items_to false f e recorded) (items_to true f e recorded) (item_at f e r.0) (item_to false e f r.0 r.1 value u)
+            | inr clash ↦ IsIn-right (items_to false f e recorded) (items_to true f e recorded) (item_at f e r.0) (item_to true e f r.0 r.1 clash u)
+          ] in
+          let P : Fact → Type 0 = λ x. IsIn (items_at (Some x) e recorded) (item_at f e r.0) in
+          (item_at f e r.0, subst P (sym gf) there, r.2, refl, refl)
+
+      -- an item of either kind is of an inference that goes from the fact
+      from_to : (clash : Bool) (e : Env) (g : Fact) (p : Pending) → IsIn (items_to clash g e recorded) p → (i : Inferred) × IsIn recorded i × IsTrue (goes_from g i) × (item_at g e i ≡ p)
+      from_to clash e g p w =
+          let i : (i : Inferred) × IsIn (filter (goes_to clash g) recorded) i × (item_at g e i ≡ p) = IsIn-map (item_at g e) (filter (goes_to clash g) recorded) p w in
+          let r : IsIn recorded i.0 × IsTrue (goes_to clash g i.0) = IsIn-filter (goes_to clash g) recorded i.0 i.1 in
+          (i.0, r.0, (and_parts _ _ r.1).1, i.2)
 
       item_of : (t : Target) (e : Env) (j : RecordedInference) (f : Fact) (m : Set ℕ) → WaitsIn (items_at t e recorded) j f m → RecordedIn recorded j × IsIn j.from f × (t ≡ Some f) × (m ≡ members e)
       item_of None e j f m w = absurd w.1
       item_of (Some g) e j f m w =
-          let i : (i : Inferred) × IsIn (filter (goes_from g) recorded) i × (item_at g e i ≡ w.0) = IsIn-map (item_at g e) (filter (goes_from g) recorded) w.0 w.1 in
-          let r : IsIn recorded i.0 × IsTrue (goes_from g i.0) = IsIn-filter (goes_from g) recorded i.0 i.1 in
-          let at : g ≡ f = ap (λ (x : Pending). x.at) i.2 ∙ w.3 in
-          let same : inference i.0 ≡ j = ap (λ (x : Pending). inference x.inferred) i.2 ∙ w.2 in
+          let i : (i : Inferred) × IsIn recorded i × IsTrue (goes_from g i) × (item_at g e i ≡ w.0) =
+          elim (IsIn-append (items_to false g e recorded) (items_to true g e recorded) w.0 w.1) [
+            | inl value ↦ from_to false e g w.0 value
+            | inr clash ↦ from_to true e g w.0 clash
+          ] in
+          let at : g ≡ f = ap (λ (x : Pending). x.at) i.3 ∙ w.3 in
+          let same : inference i.0 ≡ j = ap (λ (x : Pending). inference x.inferred) i.3 ∙ w.2 in
           let P : Fact → Type 0 = λ x. IsIn (facts i.0.first i.0.second) x in
           let Q : RecordedInference → Type 0 = λ x. IsIn x.from f in
-          ((i.0, r.0, same), subst Q same (subst P at (uses_it i.0 g r.1)), ap (λ x. Some x) at, sym w.4 ∙ sym (ap (λ (x : Pending). members x.env) i.2))
+          ((i.0, i.1, same), subst Q same (subst P at (uses_it i.0 g i.2)), ap (λ x. Some x) at, sym w.4 ∙ sym (ap (λ (x : Pending). members x.env) i.3))
 
       items : (j : RecordedInference) (f : Fact) (m : Set ℕ) → WaitsIn (agenda ++ items_for due recorded) j f m → WaitsIn agenda j f m ⊎ (RecordedIn recorded j × IsIn j.from f × (due.target ≡ Some f) × (m ≡ members due.env))
       items j f m w =

@@ -98,10 +98,25 @@ WaitsAlso slots item u = Holds slots u.slot u.nodes u.recorded.items u.due.items
 abbrev pub item_at : Fact → Env → Inferred → Pending
 item_at f e i = record { inferred = i; at = f; env = e }
 
--- each inference that goes from the fact, with the environment
+-- whether the target is the clash, or, where it is asked for the others, a fact
+abbrev pub ends_in : Bool → Target → Bool
+ends_in true None = true
+ends_in true (Some f) = false
+ends_in false None = false
+ends_in false (Some f) = true
+
+-- the inference goes from the fact to a clash, or to a value
+abbrev pub goes_to : Bool → Fact → Inferred → Bool
+goes_to clash f i = ends_in clash i.to && goes_from f i
+
+-- each inference from the fact to a clash, or to a value, with the environment
+abbrev pub items_to : Bool → Fact → Env → List Inferred → List Pending
+items_to clash f e recorded = map (item_at f e) (filter (goes_to clash f) recorded)
+
+-- each inference that goes from the fact, with the environment: those to a clash last
 abbrev pub items_at : Target → Env → List Inferred → List Pending
 items_at None e recorded = []
-items_at (Some f) e recorded = map (item_at f e) (filter (goes_from f) recorded)
+items_at (Some f) e recorded = items_to false f e recorded ++ items_to true f e recorded
 
 -- each inference that goes from the target of what is put in, with its environment
 abbrev pub items_for : Insertion → List Inferred → List Pending

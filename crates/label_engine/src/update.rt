@@ -12,7 +12,7 @@ ghost use Rattle.circuit_model.specs.declared.model.Assumption.TheVariants.{Part
 ghost use Rattle.propagation.specs.Uncovered.{Fits, TargetFits};
 ghost use Rattle.propagation.specs.Propagating.{IsReached};
 ghost use Rattle.label_engine.specs.Nodes.{facts_of, KeptIn, IsMet, EachDrops};
-ghost use Rattle.label_engine.specs.Update.{goes_from, item_at, some_fact, goes_from_none, due_with, items_with, items_from, other_fact, made_by, HasUnions, HasUnionsWith, HasMet, AreKeptAlike, IsPutThere, Propagates, DueAlso, WaitsAlso, CarriesOn, IsReady, BeginsUnions, AreKeptAt, IsAddedOrReached, Survives, before, IsAtRest, IsTakenBack, is_made_at, is_met_or_none, is_still_met, HasForgotten};
+ghost use Rattle.label_engine.specs.Update.{item_at, items_at, items_to, ends_in, some_fact, goes_from_none, due_with, items_with, items_from, other_fact, made_by, HasUnions, HasUnionsWith, HasMet, AreKeptAlike, IsPutThere, Propagates, DueAlso, WaitsAlso, CarriesOn, IsReady, BeginsUnions, AreKeptAt, IsAddedOrReached, Survives, before, IsAtRest, IsTakenBack, is_made_at, is_met_or_none, is_still_met, HasForgotten};
 ghost use Rattle.assumption_slots.specs.Slots.{stock};
 
 use crate::nodes::{Insertion, Nodes};
@@ -51,17 +51,25 @@ struct LastCovers {
     nogood: usize,
 }
 
-// Each of the inferences that goes from the fact waits, with the environment.
+// Whether the inference leads to a clash, or, where it is asked for the others, to a value.
+fn ends_in(inferred: &Inferred, clash: bool) -> bool
+    ensures { result ≡ ends_in clash inferred.now.to }
+{
+    inferred.to.is_none() == clash
+}
+
+// Each of the inferences from the fact to a clash, or each to a value, waits with the environment.
 fn wait_at_uses(
     agenda: &mut Agenda<Pending>,
     recorded: &[Inferred],
     fact: &Fact,
     env: &Env,
+    clash: bool,
 ) -> Result<(), AllocError>
-    ensures { IfOk result (λ _. agenda.new ≡ agenda.old ++ map (item_at fact.now env.now) (filter (goes_from fact.now) recorded.now)) }
+    ensures { IfOk result (λ _. agenda.new ≡ agenda.old ++ items_to clash fact.now env.now recorded.now) }
 {
     for inferred in recorded {
-        if uses(inferred, fact) {
+        if ends_in(inferred, clash) && uses(inferred, fact) {
             agenda.push(Pending {
                 inferred: *inferred,
                 at: *fact,
@@ -70,6 +78,20 @@ fn wait_at_uses(
         }
     }
     Ok(())
+}
+
+// Each of the inferences from the fact waits with the environment. Clashes come last, so that who chooses what came last
+// finds a clash before all that would be in vain after it.
+fn wait_at_all(
+    agenda: &mut Agenda<Pending>,
+    recorded: &[Inferred],
+    fact: &Fact,
+    env: &Env,
+) -> Result<(), AllocError>
+    ensures { IfOk result (λ _. agenda.new ≡ agenda.old ++ items_at (Some fact.now) env.now recorded.now) }
+{
+    wait_at_uses(agenda, recorded, fact, env, false)?;
+    wait_at_uses(agenda, recorded, fact, env, true)
 }
 
 // What the inferences from no fact lead to is due, with the environment.
@@ -380,7 +402,7 @@ impl Update {
         ensures slot { self.new.slot ≡ self.old.slot }
     {
         if let Some(fact) = &due.target {
-            wait_at_uses(&mut self.agenda, &self.recorded, fact, &due.env)?;
+            wait_at_all(&mut self.agenda, &self.recorded, fact, &due.env)?;
         }
         self.nodes.put(due)
     }
