@@ -1,5 +1,5 @@
 -- An answer to a question, as its reply.
-use Rattle.std.proofs.Common.{◌≡◌, ℕ, inl, inr, List, Option, Some, None, refl, sym, subst}
+use Rattle.std.proofs.Common.{◌≡◌, ℕ, inl, inr, List, Some, None, refl, sym, subst}
 use Rattle.circuit_model.specs.declared.model.Cell.{Cell}
 use Rattle.circuit_model.specs.Chosen.{chosen_places}
 use Rattle.environment_sets.specs.Members.{sets}

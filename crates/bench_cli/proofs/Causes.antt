@@ -51,3 +51,8 @@ exactly NoMemory es l₀ l₁ h₀ h₁ (inr k) = where_map _ _ (from_kept NoMem
 
 pub too_much_exactly : (s : Status) (t₀ t₁ k₀ k₁ : Telling) → Session s t₀ t₁ k₀ k₁ → WhereTold t₀.bytes t₁.bytes (λ i l. (s ≡ TooMuch) ↔ TakesTooMuch i l)
 too_much_exactly s t₀ t₁ k₀ k₁ k = exactly s k.exchanges t₀.bytes t₁.bytes k₀.bytes k₁.bytes k.outcome
+
+-- no more was taken where nothing was
+pub too_much_unread : (s : Status) → (s ≡ TooMuch → ⊥) → (input : Option (List ℕ)) → WhereTold input input (λ i l. (s ≡ TooMuch) ↔ TakesTooMuch i l)
+too_much_unread s n None = tt
+too_much_unread s n (Some input) = from_kept s n input input refl

@@ -5,3 +5,6 @@ pub mod Running
 pub mod Serving
 pub mod Causes
 pub mod Answered
+pub mod Boxed
+pub mod Ended
+pub mod Performing

@@ -8,3 +8,4 @@ pub mod Session
 pub mod Program
 pub mod Causes
 pub mod Turns
+pub mod Summary

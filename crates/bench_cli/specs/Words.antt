@@ -1,8 +1,9 @@
 -- The words of the command line.
-use Rattle.std.specs.Prelude.{◌≡◌, ◌⊎◌, ℕ, true, List, [], ◌∷◌, ◌++◌, codes, map, Option, String}
+use Rattle.std.specs.Prelude.{◌≡◌, ◌⊎◌, ℕ, ◌≤◌, true, List, [], ◌∷◌, ◌++◌, codes, map, Option, String}
 use Rattle.std.specs.Io.KnownBytes.{Appends}
 use Rattle.std.specs.String.{string_bytes}
-use Rattle.netlist_text.specs.Words.{is_number}
+use Rattle.netlist_text.specs.Words.{is_number, number_of}
+use Rattle.workload_maker.specs.declared.making.TheConstants.{MOST_BOXES}
 use Rattle.bench_cli.specs.declared.Status.{Status}
 use Rattle.bench_cli.specs.declared.Status.TheVariants.{Usage, WriteFault}
 
@@ -19,6 +20,20 @@ pub record IsOrderedRun {Z : Type 0} (words : List (String Z)) : Type 0 where
 -- the words ask for a session
 abbrev pub IsRun : {Z : Type 0} → List (String Z) → Type 0
 IsRun words = IsPlainRun words ⊎ IsOrderedRun words
+
+-- the word is a number of boxes that can be made
+pub record IsBoxCount (word : List ℕ) : Type 0 where
+  pub number : is_number word ≡ true
+  pub least : 1 ≤ number_of word
+  pub most : number_of word ≤ MOST_BOXES
+
+-- the words are `make`, a number of boxes and a seed
+pub record IsMake {Z : Type 0} (words : List (String Z)) : Type 0 where
+  pub count : List ℕ
+  pub seed : List ℕ
+  pub are : map string_bytes words ≡ codes "make" ∷ count ∷ seed ∷ []
+  pub of_count : IsBoxCount count
+  pub of_seed : is_number seed ≡ true
 
 -- the line that says which words there are
 abbrev pub usage_line : List ℕ

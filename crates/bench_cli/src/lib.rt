@@ -1,18 +1,20 @@
-//! A diagnosis bench for digital circuits: it reads a session, and answers each of its lines. The program is a crate of
-//! its own, over `exit_number`.
+//! A diagnosis bench for digital circuits: it reads a session, and answers each of its lines; or it makes a circuit, and
+//! tells what is answered about it. The program is a crate of its own, over `exit_number`.
 #![tactic(auto)]
 
 ghost use Rattle.std.specs.Prelude.{◌≡◌};
 ghost use Rattle.bench_cli.specs.Program.{Performs, Exits, HasWords, AsksForSession};
-ghost use Rattle.bench_cli.specs.Statuses.{number_of};
+ghost use Rattle.bench_cli.specs.Statuses.{number_of, status_by};
 ghost use Rattle.bench_cli.specs.Words.{IsRun};
 
+mod making;
 mod session;
 mod turn;
 mod words;
 mod writing;
 
-use crate::words::{is_ordered_run, is_plain_run, picker_of};
+use crate::making::make;
+use crate::words::{boxes_of, is_make, is_ordered_run, is_plain_run, picker_of, seed_of};
 use bench_io::{Sink, Source, write_all};
 use propagation_agenda::Oldest;
 use std::alloc::Global;
@@ -52,6 +54,19 @@ pub enum Status {
 }
 
 impl Status {
+    // The status of what was answered and written whole.
+    fn of(no_memory: bool, refused: bool) -> Status
+        ensures { result ≡ status_by no_memory refused }
+    {
+        if no_memory {
+            Status::NoMemory
+        } else if refused {
+            Status::SomeRefused
+        } else {
+            Status::Done
+        }
+    }
+
     /// The number that the program exits with: 0 to 6.
     pub fn number(&self) -> u8
         ensures { result ≡ number_of self.now }
@@ -86,6 +101,9 @@ pub fn gde<S: Source, K: Sink>(
     }
     if is_ordered_run(words) {
         return session::run(alloc, &mut picker_of(words), source, sink);
+    }
+    if is_make(words) {
+        return make(alloc, boxes_of(words), seed_of(words), sink);
     }
     match write_all(
         sink,

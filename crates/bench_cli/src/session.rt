@@ -41,13 +41,7 @@ impl Tally {
     fn status(&self) -> Status
         ensures { result ≡ status_of self.now }
     {
-        if self.no_memory {
-            Status::NoMemory
-        } else if self.refused {
-            Status::SomeRefused
-        } else {
-            Status::Done
-        }
+        Status::of(self.no_memory, self.refused)
     }
 }
 

@@ -2,10 +2,11 @@
 ghost use Rattle.std.specs.Prelude.{◌≡◌, ◌↔◌, IsTrue, codes, true};
 ghost use Rattle.std.specs.String.{string_bytes};
 ghost use Rattle.netlist_text.specs.Words as lines;
-ghost use Rattle.bench_cli.specs.Words.{IsPlainRun, IsOrderedRun};
+ghost use Rattle.bench_cli.specs.Words.{IsPlainRun, IsOrderedRun, IsBoxCount, IsMake};
 
 use netlist_text::{is_number, number_of};
 use propagation_agenda::Seeded;
+use workload_maker::MOST_BOXES;
 
 // Whether the word is these bytes.
 fn is_word(word: &String, bytes: &[u8]) -> bool
@@ -39,4 +40,39 @@ pub fn picker_of(words: &[String]) -> Seeded
     requires { IsOrderedRun words.now }
 {
     Seeded::new(number_of(words[2].as_bytes()))
+}
+
+/// Whether the words are `make`, a number of boxes that can be made, and a seed.
+pub fn is_make(words: &[String]) -> bool
+    ensures { IsTrue result ↔ IsMake words.now }
+{
+    words.len() == 3 && ask_for_boxes(&words[0], &words[1], &words[2])
+}
+
+fn ask_for_boxes(make: &String, count: &String, seed: &String) -> bool
+    ensures { IsTrue result ↔ ((string_bytes make.now ≡ codes "make") × IsBoxCount (string_bytes count.now) × (lines.is_number (string_bytes seed.now) ≡ true)) }
+{
+    is_word(make, b"make") && is_box_count(count.as_bytes()) && is_number(seed.as_bytes())
+}
+
+fn is_box_count(word: &[u8]) -> bool
+    ensures { IsTrue result ↔ IsBoxCount word.now }
+{
+    is_number(word) && number_of(word) >= 1 && number_of(word) <= MOST_BOXES
+}
+
+/// The number of boxes that `make` asks for.
+pub fn boxes_of(words: &[String]) -> u64
+    requires { IsMake words.now }
+    ensures { (asked : IsMake words.now) → result ≡ lines.number_of asked.count }
+{
+    number_of(words[1].as_bytes())
+}
+
+/// The seed that `make` asks for.
+pub fn seed_of(words: &[String]) -> u64
+    requires { IsMake words.now }
+    ensures { (asked : IsMake words.now) → result ≡ lines.number_of asked.seed }
+{
+    number_of(words[2].as_bytes())
 }

@@ -6,6 +6,7 @@ ghost use Rattle.answer_text.specs.Texts.{label_lines};
 ghost use Rattle.session_undo.specs.Answers as answers;
 ghost use Rattle.session_undo.specs.Replies.{Reply, text_of, refusal_line};
 ghost use Rattle.bench_cli.specs.Answering.{IsReply, IsWritable};
+ghost use Rattle.bench_cli.specs.Summary.{reply_for};
 
 use crate::turn::LineAnswer;
 use answer_text::{write_derivation, write_label, write_probe, write_sets};
@@ -13,7 +14,7 @@ use bench_io::{Failed, Sink, write_all, write_pieces};
 use circuit_model::Cell;
 use itoa::Buffer;
 use netlist_text::write_present;
-use session_undo::{Answer, Session};
+use session_undo::{Answer, Session, Stop};
 
 /// The number of the refusal for want of memory.
 const NO_MEMORY: u64 = 90;
@@ -58,6 +59,16 @@ fn write_told<K: Sink>(session: &Session, answer: &Answer, sink: &mut K) -> Resu
             write_derivation(session.present(), under, derivation, sink)
         }
         Answer::Show => write_present(session.present(), sink),
+    }
+}
+
+/// Writes the line of what was stopped. At `Err` a front of it was written.
+pub fn write_stop<K: Sink>(sink: &mut K, stop: &Stop) -> Result<(), Failed>
+    ensures { Writes (K.told sink.old) (K.told sink.new) result (text_of (reply_for stop.now)) }
+{
+    match stop {
+        Stop::Refused(refusal) => write_refusal(sink, refusal.number(), refusal.text()),
+        Stop::OutOfMemory => write_refusal(sink, NO_MEMORY, b"no memory"),
     }
 }
 
