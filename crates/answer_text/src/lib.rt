@@ -12,5 +12,5 @@ mod texts;
 pub use derivations::write_derivation;
 pub use labels::write_label;
 pub use laws::valid_derivations_can_be_written;
-pub use probes::write_probe;
+pub use probes::{put_best, write_probe};
 pub use sets::write_sets;

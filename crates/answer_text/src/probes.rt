@@ -33,8 +33,14 @@ fn put_probe<K: Sink>(sink: &mut K, failed: bool, present: &Present, probe: &Pro
     put(sink, failed, b"\n")
 }
 
-// The line of the best measurement, or that there is none.
-fn put_best<K: Sink>(sink: &mut K, failed: bool, present: &Present, best: &Option<Probe>) -> bool
+/// Puts the line of the best next measurement, or that there is none, where nothing failed before. It answers whether
+/// something failed.
+pub fn put_best<K: Sink>(
+    sink: &mut K,
+    failed: bool,
+    present: &Present,
+    best: &Option<Probe>,
+) -> bool
     requires { ForSome best.now (λ p. p.cell.net < length present.now.nets) }
     ensures { Puts failed result (K.told sink.old) (K.told sink.new) (best_line present.now best.now) }
 {

@@ -1,10 +1,9 @@
 // Generated polyboxes, and a summary of what is answered about them.
-ghost use Rattle.std.specs.Prelude.{◌≡◌, ◌<◌, List, [], ◌∷◌, decimal, length, false};
+ghost use Rattle.std.specs.Prelude.{◌≡◌, ◌<◌, List, [], ◌∷◌, length, false};
 ghost use Rattle.std.specs.List.{All};
 ghost use Rattle.std.specs.Option.{ForSome};
 ghost use Rattle.std.specs.Result.{ForOk};
 ghost use Rattle.bench_io.specs.Puts.{Puts};
-ghost use Rattle.answer_text.specs.Texts.{probe_line, best_line};
 ghost use Rattle.circuit_model.specs.Diagnoses.{IsConflict, IsDiagnosis};
 ghost use Rattle.circuit_model.specs.Present.{circuit_of};
 ghost use Rattle.environment_sets.specs.Counts.{AreSoMany};
@@ -16,10 +15,10 @@ ghost use Rattle.bench_cli.specs.Summary.{ChangesAll, RunsBoxes, CanBeMade, Find
 
 use crate::Status;
 use crate::writing::write_stop;
+use answer_text::put_best;
 use bench_io::{Sink, put, put_number};
 use circuit_model::Present;
-use itoa::Buffer;
-use netlist_text::{Change, Query, put_cell};
+use netlist_text::{Change, Query};
 use probe_planner::Probe;
 use propagation_agenda::Oldest;
 use session_undo::{Answer, Session, Stop};
@@ -170,39 +169,6 @@ fn put_counted<K: Sink>(
     match counted {
         Ok(count) => put_count(sink, failed, word, *count as u64),
         Err(stop) => put_stop(sink, failed, stop),
-    }
-}
-
-// The number in decimal digits.
-fn put_large_number<K: Sink>(sink: &mut K, failed: bool, number: u128) -> bool
-    ensures { Puts failed result (K.told sink.old) (K.told sink.new) (decimal number) }
-{
-    let mut buffer = Buffer::new();
-    put(sink, failed, buffer.format(number).as_bytes())
-}
-
-// The line of a measurement.
-fn put_probe<K: Sink>(sink: &mut K, failed: bool, present: &Present, probe: &Probe) -> bool
-    requires { probe.now.cell.net < length present.now.nets }
-    ensures { Puts failed result (K.told sink.old) (K.told sink.new) (probe_line present.now probe.now.cell probe.now.score probe.now.total) }
-{
-    let failed = put(sink, failed, b"probe ");
-    let failed = put_cell(sink, failed, present, probe.cell);
-    let failed = put(sink, failed, b" ");
-    let failed = put_large_number(sink, failed, probe.score);
-    let failed = put(sink, failed, b" ");
-    let failed = put_large_number(sink, failed, probe.total);
-    put(sink, failed, b"\n")
-}
-
-// The line of the best measurement, or that there is none.
-fn put_best<K: Sink>(sink: &mut K, failed: bool, present: &Present, best: &Option<Probe>) -> bool
-    requires { ForSome best.now (λ p. p.cell.net < length present.now.nets) }
-    ensures { Puts failed result (K.told sink.old) (K.told sink.new) (best_line present.now best.now) }
-{
-    match best {
-        Some(probe) => put_probe(sink, failed, present, probe),
-        None => put(sink, failed, b"probe none\n"),
     }
 }
 

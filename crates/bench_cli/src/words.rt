@@ -38,6 +38,7 @@ fn are_ordered(run: &String, order: &String, number: &String) -> bool
 /// The picker that `run order` and a number ask for: the words of a generator with this seed.
 pub fn picker_of(words: &[String]) -> Seeded
     requires { IsOrderedRun words.now }
+    ensures { (asked : IsOrderedRun words.now) → result ≡ lines.number_of asked.digits }
 {
     Seeded::new(number_of(words[2].as_bytes()))
 }

@@ -1,0 +1,5 @@
+// Sessions under pickers of several kinds.
+#![tactic(auto)]
+
+#[cfg(test)]
+mod orders;
