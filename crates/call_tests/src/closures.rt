@@ -2,7 +2,7 @@
 
 use circuit_model::Cell;
 use given_presents::present_of;
-use present_closure::{Closed, Environment, close_environment};
+use plain_answers::{Closed, Environment, close_environment};
 use std::test::Fail;
 
 #[test]

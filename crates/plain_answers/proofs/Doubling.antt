@@ -17,10 +17,10 @@ use Rattle.circuit_model.specs.Diagnoses.{Place, AtPart, AtCell}
 use Rattle.circuit_model.specs.Present.{PresentView, reading_in, IsLawful}
 use Rattle.circuit_model.specs.Stock.{IsEnvironment}
 use Rattle.circuit_model.specs.Whole.{stock}
-use Rattle.present_closure.specs.declared.environment.Environment.{Environment}
-use Rattle.present_closure.specs.Members.{members}
-use Rattle.present_closure.specs.Sets.{IsWith, IsEmpty}
-use Rattle.present_closure.proofs.Environments.{is_some-map, is_some-part}
+use Rattle.plain_answers.specs.declared.environment.Environment.{Environment}
+use Rattle.plain_answers.specs.Members.{members}
+use Rattle.plain_answers.specs.Sets.{IsWith, IsEmpty}
+use Rattle.plain_answers.proofs.WithReadings.{is_some-map, is_some-part}
 use Rattle.circuit_model.proofs.SameCells.{same_cell, cell_itself}
 use Rattle.circuit_model.proofs.Readings.{Measured, measured_at, rising_apart, reading_in-at}
 use Rattle.plain_answers.specs.Subsets.{sets, IsWithin, IsPart, IsPartOrCell, is_same, adding, doubling}
@@ -191,24 +191,26 @@ parts_doubled n Es all = doubled_roster (AtPart n) (IsPart n) (IsPart (n + 1)) w
   only (AtCell c) h = absurd h
 
 module _ (s : PresentView) (lawful : IsLawful s) (n : ℕ) (f : Fact) (at : slice_get s.readings n ≡ Some f) where
-  wider_cell : (k : Place) → IsPartOrCell s n k → IsPartOrCell s (n + 1) k
+  pub wider_cell : (k : Place) → IsPartOrCell s n k → IsPartOrCell s (n + 1) k
   wider_cell (AtPart k) h = h
   wider_cell (AtCell c) h = let low = h.2 in (h.0, h.1, omega arith, h.3, h.4)
 
+  -- the last one, or one before
+  pub last_or_before : (k : Place) → IsPartOrCell s (n + 1) k → IsPartOrCell s n k ⊎ (k ≡ AtCell f.cell)
+  last_or_before (AtPart k) h = inl h
+  last_or_before (AtCell c) h = elim (cases_lt h.0 n) [
+    | inl low ↦ inl (h.0, h.1, low, h.3, h.4)
+    | inr high ↦
+        let below = h.2 in
+        let last : h.0 ≡ n = omega arith in
+        let there : slice_get s.readings n ≡ Some h.1 = subst (λ (k : ℕ). slice_get s.readings k ≡ Some h.1) last h.3 in
+        let same : h.1 ≡ f = cc in
+        inr (ap AtCell (sym h.4 ∙ ap (λ (f : Fact). f.cell) same))
+  ]
+
   -- one measured cell more
   pub cell_doubled : (Es : List (Set Place)) → IsRoster (IsWithin (IsPartOrCell s n)) Es → IsRoster (IsWithin (IsPartOrCell s (n + 1))) (doubling (AtCell f.cell) Es)
-  cell_doubled Es all = doubled_roster (AtCell f.cell) (IsPartOrCell s n) (IsPartOrCell s (n + 1)) wider_cell (n, f, omega arith, at, refl) only (λ h. rising_apart s.readings lawful.rising h.0 n h.1 f h.2 h.3 at h.4) Es all where
-    only : (k : Place) → IsPartOrCell s (n + 1) k → IsPartOrCell s n k ⊎ (k ≡ AtCell f.cell)
-    only (AtPart k) h = inl h
-    only (AtCell c) h = elim (cases_lt h.0 n) [
-      | inl low ↦ inl (h.0, h.1, low, h.3, h.4)
-      | inr high ↦
-          let below = h.2 in
-          let last : h.0 ≡ n = omega arith in
-          let there : slice_get s.readings n ≡ Some h.1 = subst (λ (k : ℕ). slice_get s.readings k ≡ Some h.1) last h.3 in
-          let same : h.1 ≡ f = cc in
-          inr (ap AtCell (sym h.4 ∙ ap (λ (f : Fact). f.cell) same))
-    ]
+  cell_doubled Es all = doubled_roster (AtCell f.cell) (IsPartOrCell s n) (IsPartOrCell s (n + 1)) wider_cell (n, f, omega arith, at, refl) last_or_before (λ h. rising_apart s.readings lawful.rising h.0 n h.1 f h.2 h.3 at h.4) Es all
 
 -- components alone
 pub parts_first : (s : PresentView) (Es : List (Set Place)) → IsRoster (IsWithin (IsPart (length s.parts))) Es → IsRoster (IsWithin (IsPartOrCell s 0)) Es
@@ -221,20 +223,23 @@ parts_first s Es all = same_roster (IsWithin (IsPart (length s.parts))) (IsWithi
   from (AtPart k) h = h
   from (AtCell c) h = let low = h.2 in absurd (omega arith)
 
+-- a component or a measured cell is one of the stock
+pub in_stock : (s : PresentView) → IsLawful s → (k : Place) → IsPartOrCell s (length s.readings) k → IsSome (stock s k)
+in_stock s lawful (AtPart k) h = let test : nat_lt k (length s.parts) ≡ true = grind (arith, nat_tests) in is_some-part s k ∙ test
+in_stock s lawful (AtCell c) h =
+    let measured : reading_in s.readings c ≡ Some h.1.value = ap (λ (c : Cell). reading_in s.readings c) (sym h.4) ∙ reading_in-at s lawful h.0 h.1 h.3 in
+    is_some-map (λ v. Reading (fact c v)) (reading_in s.readings c) ∙ ap is_some measured
+
+-- and the stock has no others
+pub from_stock : (s : PresentView) (k : Place) → IsSome (stock s k) → IsPartOrCell s (length s.readings) k
+from_stock s (AtPart k) h = let test : nat_lt k (length s.parts) ≡ true = sym (is_some-part s k) ∙ h in grind (arith, nat_tests)
+from_stock s (AtCell c) h = by_reading (reading_in s.readings c) refl (sym (is_some-map (λ v. Reading (fact c v)) (reading_in s.readings c)) ∙ h) where
+  by_reading : (o : Option ℕ) → reading_in s.readings c ≡ o → is_some (reading_in s.readings c) ≡ true → IsPartOrCell s (length s.readings) (AtCell c)
+  by_reading None is some = absurd (true≢false (sym some ∙ ap is_some is))
+  by_reading (Some v) is some =
+      let r : Measured s.readings c v = measured_at s.readings c v is in
+      (r.0, r.1, slice_get_within s.readings r.0 r.1 r.2, r.2, r.3)
+
 -- all components and all measured cells are the stock
 pub stock_last : (s : PresentView) → IsLawful s → (Es : List (Set Place)) → IsRoster (IsWithin (IsPartOrCell s (length s.readings))) Es → IsRoster (IsEnvironment (stock s)) Es
-stock_last s lawful Es all = same_roster (IsWithin (IsPartOrCell s (length s.readings))) (IsEnvironment (stock s)) Es (λ E within k m. to k (within k m)) (λ E within k m. from k (within k m)) all where
-  to : (k : Place) → IsPartOrCell s (length s.readings) k → IsSome (stock s k)
-  to (AtPart k) h = let test : nat_lt k (length s.parts) ≡ true = grind (arith, nat_tests) in is_some-part s k ∙ test
-  to (AtCell c) h =
-      let measured : reading_in s.readings c ≡ Some h.1.value = ap (λ (c : Cell). reading_in s.readings c) (sym h.4) ∙ reading_in-at s lawful h.0 h.1 h.3 in
-      is_some-map (λ v. Reading (fact c v)) (reading_in s.readings c) ∙ ap is_some measured
-
-  from : (k : Place) → IsSome (stock s k) → IsPartOrCell s (length s.readings) k
-  from (AtPart k) h = let test : nat_lt k (length s.parts) ≡ true = sym (is_some-part s k) ∙ h in grind (arith, nat_tests)
-  from (AtCell c) h = by_reading (reading_in s.readings c) refl (sym (is_some-map (λ v. Reading (fact c v)) (reading_in s.readings c)) ∙ h) where
-    by_reading : (o : Option ℕ) → reading_in s.readings c ≡ o → is_some (reading_in s.readings c) ≡ true → IsPartOrCell s (length s.readings) (AtCell c)
-    by_reading None is some = absurd (true≢false (sym some ∙ ap is_some is))
-    by_reading (Some v) is some =
-        let r : Measured s.readings c v = measured_at s.readings c v is in
-        (r.0, r.1, slice_get_within s.readings r.0 r.1 r.2, r.2, r.3)
+stock_last s lawful Es all = same_roster (IsWithin (IsPartOrCell s (length s.readings))) (IsEnvironment (stock s)) Es (λ E within k m. in_stock s lawful k (within k m)) (λ E within k m. from_stock s k (within k m)) all

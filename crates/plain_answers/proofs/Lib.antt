@@ -1,4 +1,9 @@
+pub mod Closings
 pub mod Doubling
+pub mod Gathering
+pub mod Grids
 pub mod KeptLists
 pub mod Loops
 pub mod Positions
+pub mod Rows
+pub mod WithReadings

@@ -7,9 +7,9 @@ use Rattle.environment_sets.specs.Sets.{Set, ◌⊆◌}
 use Rattle.environment_sets.specs.Lists.{IsIn}
 use Rattle.environment_sets.proofs.Membership.{IsIn-append, IsIn-slice_get, map-IsIn}
 use Rattle.circuit_model.specs.Diagnoses.{Place}
-use Rattle.present_closure.specs.declared.environment.Environment.{Environment}
-use Rattle.present_closure.specs.Members.{members}
-use Rattle.present_closure.specs.Sets.{IsWith}
+use Rattle.plain_answers.specs.declared.environment.Environment.{Environment}
+use Rattle.plain_answers.specs.Members.{members}
+use Rattle.plain_answers.specs.Sets.{IsWith}
 use Rattle.plain_answers.specs.Subsets.{sets, adding, doubling, Keeps}
 use Rattle.plain_answers.specs.Tests.{IsDecided, IsLeastIn}
 use Rattle.plain_answers.proofs.Doubling.{sets_taken, with_adding, doubling_one_more}

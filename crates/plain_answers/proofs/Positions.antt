@@ -15,10 +15,10 @@ use Rattle.circuit_model.specs.declared.present.Component.{Component}
 use Rattle.circuit_model.specs.Closure.{fact}
 use Rattle.circuit_model.specs.Diagnoses.{Place, AtPart, AtCell, with_readings, AreRefuted, IsConflict, IsDiagnosis}
 use Rattle.circuit_model.specs.Present.{PresentView, reading_in, circuit_of}
-use Rattle.present_closure.specs.declared.environment.Environment.{Environment}
-use Rattle.present_closure.specs.Members.{members, IsPartsOf, IsWithReadings}
-use Rattle.present_closure.specs.Sets.{IsEmpty, IsWith}
-use Rattle.present_closure.proofs.Environments.{is_some-map}
+use Rattle.plain_answers.specs.declared.environment.Environment.{Environment}
+use Rattle.plain_answers.specs.Members.{members, IsPartsOf, IsWithReadings}
+use Rattle.plain_answers.specs.Sets.{IsEmpty, IsWith}
+use Rattle.plain_answers.proofs.WithReadings.{is_some-map}
 use Rattle.plain_answers.specs.Subsets.{sets, IsWithin, IsPart, Keeps}
 use Rattle.plain_answers.specs.Tests.{positions, position_sets, AreParts, AreOthers, IsDecided, IsRepaired, IsLeastIn}
 use Rattle.plain_answers.proofs.KeptLists.{kept_roster, same_roster}

@@ -5,8 +5,8 @@ use Rattle.circuit_model.specs.declared.model.Fact.{Fact}
 use Rattle.circuit_model.specs.Diagnoses.{Place, AtPart, AtCell}
 use Rattle.circuit_model.specs.Present.{PresentView, is_cell}
 use Rattle.circuit_model.specs.declared.limits.TheConstants.{MOST_CYCLES, MOST_NETS, MOST_PARTS}
-use Rattle.present_closure.specs.declared.environment.Environment.{Environment}
-use Rattle.present_closure.specs.Members.{members}
+use Rattle.plain_answers.specs.declared.environment.Environment.{Environment}
+use Rattle.plain_answers.specs.Members.{members}
 use Rattle.plain_answers.specs.declared.subsets.Named.{Named}
 use Rattle.plain_answers.specs.declared.subsets.Named.TheVariants as named
 

@@ -8,8 +8,8 @@ use Rattle.circuit_model.specs.Stock.{Has, IsRefutedBy}
 use Rattle.circuit_model.specs.Diagnoses.{Place, AtPart, AtCell, AreRefuted}
 use Rattle.circuit_model.specs.Present.{PresentView, circuit_of}
 use Rattle.circuit_model.specs.Whole.{stock}
-use Rattle.present_closure.specs.declared.environment.Environment.{Environment}
-use Rattle.present_closure.specs.Members.{members}
+use Rattle.plain_answers.specs.declared.environment.Environment.{Environment}
+use Rattle.plain_answers.specs.Members.{members}
 use Rattle.plain_answers.specs.declared.keeping.Test.{Test}
 use Rattle.plain_answers.specs.declared.keeping.Test.TheVariants as test
 

@@ -9,10 +9,10 @@ ghost use Rattle.circuit_model.specs.Present.{circuit_of};
 ghost use Rattle.plain_answers.specs.Subsets.{sets};
 ghost use Rattle.plain_answers.specs.Tests.{position_sets};
 
+use crate::environment::Environment;
 use crate::keeping::{Test, keep, least};
 use crate::subsets::{environments, part_sets};
 use circuit_model::{Fact, Present};
-use present_closure::Environment;
 use std::alloc::{AllocError, Global};
 
 /// The label of a fact in a present (de Kleer 1986): all of its environments are tried, in time that is

@@ -6,12 +6,13 @@ ghost use Rattle.circuit_model.specs.Diagnoses.{AreRefuted};
 ghost use Rattle.circuit_model.specs.Present.{circuit_of};
 ghost use Rattle.circuit_model.specs.Stock.{IsRefutedBy};
 ghost use Rattle.circuit_model.specs.Whole.{stock};
-ghost use Rattle.present_closure.specs.Members.{members};
+ghost use Rattle.plain_answers.specs.Members.{members};
 ghost use Rattle.plain_answers.specs.Subsets.{sets, Keeps};
 ghost use Rattle.plain_answers.specs.Tests.{Passes, HasFact, IsLeastIn, IsDecided, IsRepaired, AreParts, AreOthers, positions};
 
+use crate::closing::{Closed, close_environment};
+use crate::environment::Environment;
 use circuit_model::{Fact, Present};
-use present_closure::{Closed, Environment, close_environment};
 use std::alloc::{AllocError, Global};
 
 /// What is asked of an environment.

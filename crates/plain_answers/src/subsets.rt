@@ -4,12 +4,12 @@ ghost use Rattle.std.specs.Prelude.{length, IfOk};
 ghost use Rattle.environment_sets.specs.Lists.{IsRoster};
 ghost use Rattle.circuit_model.specs.Stock.{IsEnvironment};
 ghost use Rattle.circuit_model.specs.Whole.{stock};
-ghost use Rattle.present_closure.specs.Members.{members};
-ghost use Rattle.present_closure.specs.Sets.{IsWith};
+ghost use Rattle.plain_answers.specs.Members.{members};
+ghost use Rattle.plain_answers.specs.Sets.{IsWith};
 ghost use Rattle.plain_answers.specs.Subsets.{sets, place_of, IsNamed, IsWithin, IsPart, IsDoubled};
 
+use crate::environment::Environment;
 use circuit_model::{Cell, Present};
-use present_closure::Environment;
 use std::alloc::{AllocError, Global};
 
 /// A component by its place, or a measured cell.

@@ -2,8 +2,7 @@
 
 use circuit_model::{Cell, Fact, Present, limits};
 use given_presents::present_of;
-use plain_answers::{conflicts, diagnoses, label, nogoods};
-use present_closure::Environment;
+use plain_answers::{Environment, conflicts, diagnoses, label, nogoods};
 use std::alloc::{AllocError, Global};
 use std::process::Abort;
 use std::test::Fail;

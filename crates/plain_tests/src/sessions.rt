@@ -4,8 +4,7 @@ use bench_cli::{Status, gde};
 use bench_io::{MemorySink, MemorySource};
 use circuit_model::Present;
 use given_presents::present_of;
-use plain_answers::diagnoses;
-use present_closure::Environment;
+use plain_answers::{Environment, diagnoses};
 use std::alloc::{AllocError, Global};
 use std::test::Fail;
 

@@ -2,8 +2,7 @@
 
 use circuit_model::limits::MOST_COST;
 use circuit_model::{Cell, Present};
-use plain_answers::diagnoses;
-use present_closure::{Closed, Environment, close_environment};
+use plain_answers::{Closed, Environment, close_environment, diagnoses};
 use probe_planner::Probe;
 use std::alloc::Global;
 use std::test::Fail;

@@ -1,7 +1,7 @@
 use Rattle.std.proofs.Common.{List, subst}
 use Rattle.circuit_model.specs.Diagnoses.{AreRefuted}
 use Rattle.circuit_model.specs.Present.{circuit_of}
-use Rattle.present_closure.specs.declared.environment.Environment.{Environment}
+use Rattle.plain_answers.specs.declared.environment.Environment.{Environment}
 use Rattle.plain_answers.specs.Subsets.{sets, Keeps}
 use Rattle.plain_answers.specs.Tests.{IsLeastIn, positions}
 use Rattle.plain_answers.proofs.Loops.{IfOk-more}

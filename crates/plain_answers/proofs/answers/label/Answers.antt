@@ -1,5 +1,5 @@
 use Rattle.std.proofs.Common.{List, subst}
-use Rattle.present_closure.specs.declared.environment.Environment.{Environment}
+use Rattle.plain_answers.specs.declared.environment.Environment.{Environment}
 use Rattle.plain_answers.specs.Subsets.{sets, Keeps}
 use Rattle.plain_answers.specs.Tests.{HasFact, IsLeastIn}
 use Rattle.plain_answers.proofs.KeptLists.{label_listed}

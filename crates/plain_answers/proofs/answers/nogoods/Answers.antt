@@ -1,7 +1,7 @@
 use Rattle.std.proofs.Common.{List, subst}
 use Rattle.circuit_model.specs.Stock.{IsRefutedBy}
 use Rattle.circuit_model.specs.Whole.{stock}
-use Rattle.present_closure.specs.declared.environment.Environment.{Environment}
+use Rattle.plain_answers.specs.declared.environment.Environment.{Environment}
 use Rattle.plain_answers.specs.Subsets.{sets, Keeps}
 use Rattle.plain_answers.specs.Tests.{IsLeastIn}
 use Rattle.plain_answers.proofs.KeptLists.{nogoods_listed}

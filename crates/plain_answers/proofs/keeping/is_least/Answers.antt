@@ -1,6 +1,6 @@
 use Rattle.std.proofs.Common.{List, subst}
-use Rattle.present_closure.specs.declared.environment.Environment.{Environment}
-use Rattle.present_closure.specs.Members.{members}
+use Rattle.plain_answers.specs.declared.environment.Environment.{Environment}
+use Rattle.plain_answers.specs.Members.{members}
 use Rattle.plain_answers.specs.Subsets.{sets}
 use Rattle.plain_answers.specs.Tests.{IsLeastIn}
 use Rattle.plain_answers.proofs.Loops.{least_more, not_least, taken_all}

@@ -1,5 +1,5 @@
 use Rattle.std.proofs.Common.{take}
-use Rattle.present_closure.specs.Members.{members}
+use Rattle.plain_answers.specs.Members.{members}
 use Rattle.plain_answers.specs.Subsets.{sets}
 use Rattle.plain_answers.specs.Tests.{IsLeastIn}
 use Rattle.plain_answers.proofs.keeping.is_least.Given as goal

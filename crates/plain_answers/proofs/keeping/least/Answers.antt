@@ -1,5 +1,5 @@
 use Rattle.std.proofs.Common.{List, subst, refl}
-use Rattle.present_closure.specs.declared.environment.Environment.{Environment}
+use Rattle.plain_answers.specs.declared.environment.Environment.{Environment}
 use Rattle.plain_answers.specs.Subsets.{sets, Keeps}
 use Rattle.plain_answers.specs.Tests.{IsLeastIn}
 use Rattle.plain_answers.proofs.Loops.{keep_pushed, keep_passed, taken_all}

@@ -1,5 +1,5 @@
 use Rattle.std.proofs.Common.{◌≡◌, ℕ, not, ap, subst, sym, ◌∙◌, arith}
-use Rattle.present_closure.specs.Members.{members}
+use Rattle.plain_answers.specs.Members.{members}
 use Rattle.plain_answers.specs.Tests.{AreOthers}
 use Rattle.plain_answers.proofs.Positions.{others_none, others_more, others_same, others_all}
 use Rattle.plain_answers.proofs.keeping.other_parts.Goals as goal

@@ -1,4 +1,4 @@
-use Rattle.present_closure.specs.Members.{members}
+use Rattle.plain_answers.specs.Members.{members}
 use Rattle.plain_answers.proofs.Positions.{AreOthersBelow}
 use Rattle.plain_answers.proofs.keeping.other_parts.Given as goal
 

@@ -1,5 +1,5 @@
 use Rattle.std.proofs.Common.{List, subst}
-use Rattle.present_closure.specs.declared.environment.Environment.{Environment}
+use Rattle.plain_answers.specs.declared.environment.Environment.{Environment}
 use Rattle.plain_answers.specs.Subsets.{sets, place_of, IsDoubled}
 use Rattle.plain_answers.proofs.Loops.{doubled_more, taken_all}
 use Rattle.plain_answers.proofs.subsets.doubled.Goals as goal

@@ -2,7 +2,7 @@ use Rattle.std.proofs.Common.{◌≡◌, ◌+◌, ℕ, List, sym, ap, subst, ◌
 use Rattle.environment_sets.specs.Sets.{Set}
 use Rattle.environment_sets.specs.Lists.{IsRoster}
 use Rattle.circuit_model.specs.Diagnoses.{Place, AtCell}
-use Rattle.present_closure.specs.declared.environment.Environment.{Environment}
+use Rattle.plain_answers.specs.declared.environment.Environment.{Environment}
 use Rattle.circuit_model.proofs.Readings.{IsFactOf-at}
 use Rattle.plain_answers.specs.Subsets.{sets, IsWithin, IsPartOrCell, doubling}
 use Rattle.plain_answers.proofs.Doubling.{parts_first, cell_doubled, stock_last}

@@ -2,8 +2,8 @@ use Rattle.std.proofs.Common.{◌≡◌, ◌<◌, ◌+◌, ℕ, List, [], ◌∷
 use Rattle.environment_sets.specs.Sets.{Set}
 use Rattle.environment_sets.specs.Lists.{IsRoster}
 use Rattle.circuit_model.specs.Diagnoses.{Place, AtPart, AtCell}
-use Rattle.present_closure.specs.declared.environment.Environment.{Environment}
-use Rattle.present_closure.specs.Members.{members}
+use Rattle.plain_answers.specs.declared.environment.Environment.{Environment}
+use Rattle.plain_answers.specs.Members.{members}
 use Rattle.plain_answers.specs.Subsets.{sets, IsWithin, IsPart, doubling}
 use Rattle.plain_answers.proofs.Doubling.{parts_doubled, empty_roster}
 use Rattle.plain_answers.proofs.subsets.part_sets.Goals as goal

@@ -1,5 +1,0 @@
-use Rattle.present_closure.proofs.Rows.{cell_added}
-use Rattle.present_closure.proofs.environment.Environment.with_cell.Goals as goal
-
-pub returns : goal.returns
-returns c = cell_added c.args.self.parts c.args.self.cells c.set_in.new.rows c.args.cell c.set_in.ensures.here c.set_in.ensures.elsewhere

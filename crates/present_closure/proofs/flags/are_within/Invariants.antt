@@ -1,7 +1,0 @@
-use Rattle.std.proofs.Common.{◌<◌, IsTrue}
-use Rattle.circuit_model.specs.declared.model.Cell.{Cell}
-use Rattle.present_closure.specs.Members.{flag_at}
-use Rattle.present_closure.proofs.flags.are_within.Given as goal
-
-abbrev pub invariant-loop-net : goal.invariant-loop-net
-invariant-loop-net l = (c : Cell) → c.net < l.net → IsTrue (flag_at l.rows c) → IsTrue (flag_at l.others c)

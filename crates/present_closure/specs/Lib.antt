@@ -1,4 +1,0 @@
-pub mod Closing
-pub mod Facts
-pub mod Members
-pub mod Sets
