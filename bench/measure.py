@@ -4,8 +4,10 @@
     bench/measure.py [COMMAND]      COMMAND reads a session; without it, the proved program with the word `run`
 
 The sessions are made here, the same ones each time: adders of gates with one sum bit seen wrong, ladders of pairs of buffers
-whose labels double at each step, polyboxes side by side, and long sessions of lines that change nothing. A session that
-takes more than LONGEST seconds is given up. This is no part of what `.ci/run` tries.
+whose labels double at each step, up to the most environments that all labels may have, polyboxes side by side, also with
+all their diagnoses scored, and long sessions: of lines that change nothing, of words measured and taken back, and of words
+measured, retracted and measured again. A session that takes more than LONGEST seconds is given up. This is no part of what
+`.ci/run` tries.
 """
 import os
 import shlex
@@ -41,7 +43,17 @@ def ladder(steps):
     return lines + ["measure N0 1", f"label N{steps}"]
 
 
-def boxes(count):
+def full_load(cycles):
+    """Ten nets, two buffers from each to the next, and a buffer from the last to each of 126: 65,535 environments a cycle."""
+    nets = [f"N{i}" for i in range(10)] + [f"P{i}" for i in range(1, 127)] + ["W"]
+    lines = [f"cycles {cycles}"] + [f"net {name} 1" for name in nets]
+    for i in range(9):
+        lines += [f"buf U{i} N{i} N{i + 1}", f"buf V{i} N{i} N{i + 1}"]
+    lines += [f"buf Q{i} N9 P{i}" for i in range(1, 127)]
+    return lines + [f"measure N0@{cycle} 1" for cycle in range(cycles)] + ["label W"]
+
+
+def boxes(count, questions=QUESTIONS):
     """Polyboxes side by side, each with one output seen wrong: 4^count diagnoses."""
     lines = []
     for box in range(count):
@@ -50,7 +62,13 @@ def boxes(count):
         lines += [f"mul M3_{box} C{box} E{box} Z{box}", f"add A1_{box} X{box} Y{box} F{box}"]
         lines += [f"add A2_{box} Y{box} Z{box} G{box}"]
         lines += [f"measure {name}{box} {value}" for name, value in zip("ABCDEFG", (3, 2, 2, 3, 3, 10, 12))]
-    return lines + QUESTIONS
+    return lines + questions
+
+
+def scored(count):
+    """The same with a pair of buffers that disagree, so twice as many diagnoses, and the best next measurement."""
+    pair = ["net I 1", "net J 1", "net K 1", "buf U I J", "buf V J K", "measure I 0", "measure K 1"]
+    return pair + boxes(count, ["diagnose", "probe"])
 
 
 def refused(count):
@@ -59,11 +77,31 @@ def refused(count):
     return lines + ["net N255 8", "measure N0 3", "buf U254 N0 N1", "cost U300 2"] * (count // 4)
 
 
+def taken_back(count):
+    """Words of 32 bits that are measured, asked for and taken back, each another one."""
+    lines = ["net A 32", "net B 32", "net S 32", "add S1 A B S", "measure A 1"]
+    for i in range(count // 3):
+        lines += [f"measure B {i * 2_654_435_761 % (1 << 32)}", "label S", "undo"]
+    return lines
+
+
+def measured_again(count):
+    """Two words of a net in turn, each retracted before the other is measured; what the history drops is forgotten."""
+    lines = ["net A 32", "net B 32", "net S 32", "add S1 A B S", "measure A 1"]
+    for i in range(count // 3):
+        lines += [f"measure B {i % 2}", "label S", "retract B"]
+    return lines
+
+
 FAMILIES = {
-    "adder, bits": (adder, (4, 6, 8)),
-    "ladder, steps": (ladder, (6, 8, 10)),
+    "adder, bits": (adder, (4, 6, 8, 10)),
+    "ladder, steps": (ladder, (8, 10, 12)),
+    "full load, cycles": (full_load, (1, 2, 4)),
     "polyboxes": (boxes, (2, 4, 6)),
+    "boxes, scored": (scored, (2, 4, 6)),
     "refused lines": (refused, (2_500, 5_000, 10_000)),
+    "taken back": (taken_back, (2_500, 5_000, 10_000)),
+    "measured again": (measured_again, (2_500, 5_000, 10_000)),
 }
 
 
@@ -89,10 +127,10 @@ def main():
         for size in sizes:
             took = run(command, make(size))
             if took is None:
-                print(f"{name:15} {size:6}    more than {LONGEST} s")
+                print(f"{name:17} {size:6}    more than {LONGEST} s")
                 break
             growth = f"{took[0] / before:6.1f} times" if before else ""
-            print(f"{name:15} {size:6} {took[0]:9.3f} s {took[1]:7.1f} MiB {growth}")
+            print(f"{name:17} {size:6} {took[0]:9.3f} s {took[1]:7.1f} MiB {growth}")
             before = max(took[0], 0.001)
 
 

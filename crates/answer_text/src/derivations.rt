@@ -298,7 +298,7 @@ pub fn write_derivation<K: Sink>(
     derivation: &Derivation,
     sink: &mut K,
 ) -> Result<(), Failed>
-    requires named { CanBeWritten present.now (derivation_of derivation.now) }
+    requires { CanBeWritten present.now (derivation_of derivation.now) }
     ensures { Writes (K.told sink.old) (K.told sink.new) result
         (under_line present.now (chosen_places chosen.now) ++ derivation_lines present.now (derivation_of derivation.now) ++ codes "ok\n") }
 {
