@@ -13,6 +13,8 @@ mod turn;
 mod words;
 mod writing;
 
+pub use crate::session::run;
+
 use crate::making::make;
 use crate::words::{boxes_of, is_make, is_ordered_run, is_plain_run, picker_of, seed_of};
 use bench_io::{Sink, Source, write_all};
@@ -97,10 +99,10 @@ pub fn gde<S: Source, K: Sink>(
     ensures unread { (IsRun words.now → ⊥) → source.new ≡ source.old }
 {
     if is_plain_run(words) {
-        return session::run(alloc, &mut Oldest, source, sink);
+        return run(alloc, &mut Oldest, source, sink);
     }
     if is_ordered_run(words) {
-        return session::run(alloc, &mut picker_of(words), source, sink);
+        return run(alloc, &mut picker_of(words), source, sink);
     }
     if is_make(words) {
         return make(alloc, boxes_of(words), seed_of(words), sink);

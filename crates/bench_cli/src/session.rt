@@ -98,7 +98,8 @@ fn status_at(ending: Ending, tally: &Tally) -> Status
     }
 }
 
-/// Runs the session that is read. Whatever the picker chooses, the replies are the same.
+/// Runs the session that is read, in the order that the picker chooses. Whatever it chooses, the replies are the same. Where
+/// the reader or the session cannot be opened nothing is read or written. What no clause says: that memory is found.
 pub fn run<P: Picker, S: Source, K: Sink>(
     alloc: Global,
     picker: &mut P,

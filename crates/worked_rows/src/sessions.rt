@@ -1,8 +1,9 @@
 // Sessions that go back: measurements retracted and put again, changes undone.
 
 use crate::running::{is_answered, lines_ended, run_rows};
-use bench_cli::{Status, gde};
+use bench_cli::{Status, gde, run};
 use bench_io::{MemorySink, MemorySource};
+use propagation_agenda::{Newest, Oldest, Picker, Seeded};
 use std::alloc::Global;
 use std::test::Fail;
 
@@ -134,15 +135,11 @@ fn mixed(alloc: Global, times: usize) -> Result<Vec<u8>, Fail> {
     Ok(text)
 }
 
-// What a session writes whose labels are worked out in the order of the words.
-fn written(alloc: Global, words: &[&str], text: &[u8]) -> Result<MemorySink, Fail> {
+// What a session writes whose labels are worked out in the order of the picker.
+fn picked<P: Picker>(alloc: Global, picker: &mut P, text: &[u8]) -> Result<MemorySink, Fail> {
     let mut source = MemorySource::new(Vec::from_slice(alloc, text)?, 1024, Vec::new(alloc));
     let mut sink = MemorySink::open(alloc, 100_000, Vec::new(alloc))?;
-    let mut given = Vec::new(alloc);
-    for word in words {
-        given.push(String::from_str(alloc, word)?)?;
-    }
-    gde(alloc, &given, &mut source, &mut sink);
+    run(alloc, picker, &mut source, &mut sink);
     Ok(sink)
 }
 
@@ -151,11 +148,38 @@ fn written(alloc: Global, words: &[&str], text: &[u8]) -> Result<MemorySink, Fai
 fn in_every_order(rt: HostRuntime) -> Result<(), Fail> {
     let alloc = rt.alloc();
     let text = mixed(alloc, 8)?;
-    let plain = written(alloc, &["run"], &text)?;
-    assert!(rt; lines_ended(plain.held()) > 300);
-    for seed in ["1", "2", "7", "4294967295", "0000000042"] {
-        let ordered = written(alloc, &["run", "order", seed], &text)?;
-        assert!(rt; ordered.held() == plain.held(), "{seed}");
+    let oldest = picked(alloc, &mut Oldest, &text)?;
+    assert!(rt; lines_ended(oldest.held()) > 300);
+    let newest = picked(alloc, &mut Newest, &text)?;
+    assert!(rt; newest.held() == oldest.held());
+    for seed in [1, 2, 7, 4_294_967_295, 42] {
+        let seeded = picked(alloc, &mut Seeded::new(seed), &text)?;
+        assert!(rt; seeded.held() == oldest.held(), "{seed}");
+    }
+    Ok(())
+}
+
+// What the words `run order` and a number write.
+fn ordered(alloc: Global, seed: &str, text: &[u8]) -> Result<MemorySink, Fail> {
+    let mut source = MemorySource::new(Vec::from_slice(alloc, text)?, 1024, Vec::new(alloc));
+    let mut sink = MemorySink::open(alloc, 100_000, Vec::new(alloc))?;
+    let words = [
+        String::from_str(alloc, "run")?,
+        String::from_str(alloc, "order")?,
+        String::from_str(alloc, seed)?,
+    ];
+    gde(alloc, &words, &mut source, &mut sink);
+    Ok(sink)
+}
+
+#[test]
+fn by_the_words_of_an_order(rt: HostRuntime) -> Result<(), Fail> {
+    let alloc = rt.alloc();
+    let text = mixed(alloc, 1)?;
+    let oldest = picked(alloc, &mut Oldest, &text)?;
+    for seed in ["0", "7", "0000000042", "9999999999"] {
+        let seeded = ordered(alloc, seed, &text)?;
+        assert!(rt; seeded.held() == oldest.held(), "{seed}");
     }
     Ok(())
 }
