@@ -25,6 +25,7 @@ use Rattle.session_undo.specs.declared.refusals.Stop.TheVariants as stop
 use Rattle.workload_maker.specs.Boxes.{boxes}
 use Rattle.bench_cli.specs.Summary.{Accepts, Refuses, StopsWith, Finds, IsBest, AreFindings, IsLineFor, SaysCount, SaysProbe, Best, NoProbe, AnswersQuestions, IsSummary, Unmade, Stopped, count_reply, probe_reply, reply_for, replies_of}
 use Rattle.bench_cli.specs.declared.making.Findings.{Findings}
+use Rattle.environment_sets.proofs.Listings.{rising_is_distinct}
 
 -- what is left of the changes goes on from here as all of them do from the old state
 pub record Advances (old : State) (changes : List Change) (i : ℕ) (now : State) : Type 0 where
@@ -62,12 +63,6 @@ Advances-stopped old now changes i change stop.OutOfMemory low at p wants = tt
 -- no change is left
 pub Advances-all : (old now : State) (changes : List Change) (i : ℕ) → length changes ≤ i → Advances old changes i now → Accepts old changes now
 Advances-all old now changes i past p = let P : List Change → Type 0 = λ xs. Accepts now xs now in p.accepted now (subst P (sym (drop_all i changes past)) refl)
-
--- what rises in a strict order is distinct
-rising_is_distinct : {X : Type 0} (before : X → X → Type 0) → IsStrict before → (xs : List X) → IsRising before xs → AreDistinct xs
-rising_is_distinct before strict [] rising = tt
-rising_is_distinct before strict (x ∷ xs) rising =
-    (λ y at same. let first : before x y = rising.0 y at in strict x y first (subst (λ z. before z x) same (subst (λ z. before x z) (sym same) first)), rising_is_distinct before strict xs rising.1)
 
 -- a listing in a strict order has as many elements as there are
 listing_counts : {X : Type 0} (before : X → X → Type 0) (P : X → Type 0) → IsStrict before → (xs : List X) → IsListing before P xs → AreSoMany P (length xs)

@@ -25,7 +25,7 @@ use Rattle.circuit_model.specs.Diagnoses.{Place, AtPart, AtCell, stock_of, with_
 use Rattle.circuit_model.specs.Blocks.{inner_instances, block_part, IsLawfulInner}
 use Rattle.circuit_model.specs.Present.{PresentView, block_at, circuit_of, named_in, reading_in, IsUse, HasPins, part_by, IsLawfulComponent, IsLawful}
 use Rattle.circuit_model.specs.Opening.{inners_of, opened_name, opened_component, opened_components, opened, positions_of, lift}
-use Rattle.circuit_model.proofs.Monotony.{AreHeld-map, AreTwoWords-map}
+use Rattle.circuit_model.proofs.Monotony.{Clashes-along}
 use Rattle.circuit_model.proofs.Moves.{All-read}
 use Rattle.circuit_model.proofs.Openings.{All-IsIn, opened_part, block_lawful}
 use Rattle.circuit_model.proofs.Presents.{IsIn-remove, free_is_new}
@@ -33,45 +33,6 @@ use Rattle.circuit_model.proofs.Diagnoses.{AreRefuted-more}
 use Rattle.circuit_model.proofs.Reiter.{not_without_least}
 use Rattle.block_tree.specs.Openings.{OpenedClashesLift}
 use Rattle.circuit_model.proofs.Renaming.{passes-elim, passes-intro}
-
--- what is assumed of readings and of instances is assumed on the other side, there perhaps of a larger part
-module _ (A B : Assumption → Type 0) (readings : (f : Fact) → A (Reading f) → B (Reading f))
-    (parts : (part : List Instance) → A (Part part) → (i : Instance) → IsIn part i → (whole : List Instance) × B (Part whole) × IsIn whole i) where
-  forced_within : {H K : Fact → Type 0} {f : Fact} → ((f : Fact) → H f → K f) → IsForced A H f → IsForced B K f
-  forced_within g s = let r = parts s.part s.assumed s.instance s.of_part in record {
-    part = r.0;
-    assumed = r.1;
-    instance = s.instance;
-    of_part = r.2;
-    known = s.known;
-    from = AreHeld-map g s.from;
-    port = s.port;
-    at = s.at;
-    forces = s.forces;
-  }
-
-  refuted_within : {H K : Fact → Type 0} → ((f : Fact) → H f → K f) → IsRefuted A H → IsRefuted B K
-  refuted_within g s = let r = parts s.part s.assumed s.instance s.of_part in record {
-    part = r.0;
-    assumed = r.1;
-    instance = s.instance;
-    of_part = r.2;
-    known = s.known;
-    from = AreHeld-map g s.from;
-    refutes = s.refutes;
-  }
-
-  holds_within : (n : ℕ) (f : Fact) → Holds A n f → Holds B n f
-  holds_within zero f h = readings f h
-  holds_within (suc n) f (inl h) = inl (holds_within n f h)
-  holds_within (suc n) f (inr h) = inr (forced_within (holds_within n) h)
-
-  clashes_at_within : (n : ℕ) → ClashesAt A n → ClashesAt B n
-  clashes_at_within n (inl h) = inl (AreTwoWords-map (holds_within n) h)
-  clashes_at_within n (inr h) = inr (refuted_within (holds_within n) h)
-
-  pub clashes_within : Clashes A → Clashes B
-  clashes_within (n, h) = (n, clashes_at_within n h)
 
 -- the pieces of an element are among those of the list
 IsIn-piece : {X Y : Type 0} (f : X → List Y) (xs : List X) (x : X) (y : Y) → IsIn xs x → IsIn (f x) y → IsIn (flat_map f xs) y
@@ -216,7 +177,7 @@ module _ (s : PresentView) (lawful : IsLawful s) (place : ℕ) (c : Component) (
 
   -- what clashes clashes when it is lifted
   pub lifted_clashes : AreRefuted (circuit_of q) (positions_of q.parts C) → AreRefuted (circuit_of s) (positions_of s.parts (lift s c C))
-  lifted_clashes h = clashes_within InQ InS readings_within parts_within h
+  lifted_clashes h = Clashes-along {InQ} {InS} readings_within parts_within h
 
 positions_below : (parts : List Component) (C : Set (List ℕ)) → IsBelow (length parts) (positions_of parts C)
 positions_below parts C k h = let r : (d : Component) × (slice_get parts k ≡ Some d) × IsTrue (C d.name) = passes-elim (λ (p : Component). C p.name) (slice_get parts k) h in slice_get_within parts k r.0 r.1

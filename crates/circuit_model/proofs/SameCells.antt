@@ -1,9 +1,11 @@
 -- When two cells are the same, and which of two comes first.
-use Rattle.std.proofs.Common.{◌≡◌, ◌≢◌, ℕ, ◌==◌, ◌⊎◌, inl, inr, true, false, IsTrue, refl, ap, ap₂, arith}
-use Rattle.std.proofs.lemmas.Bool.{cases_eq}
+use Rattle.std.proofs.Common.{◌≡◌, ◌≢◌, ℕ, ◌==◌, ◌⊎◌, inl, inr, true, false, not, IsTrue, refl, ap, ap₂, arith}
+use Rattle.std.proofs.lemmas.Bool.{cases_eq, and_parts, and_from, eqb-true, eq-eqb}
 use Rattle.std.proofs.lemmas.Bool.Decides.{nat_tests}
 use Rattle.circuit_model.specs.declared.model.Cell.{Cell}
-use Rattle.circuit_model.specs.Present.{is_cell, is_cell_before}
+use Rattle.circuit_model.specs.declared.model.Fact.{Fact}
+use Rattle.circuit_model.specs.Closure.{fact}
+use Rattle.circuit_model.specs.Present.{is_cell, is_cell_before, is_fact}
 
 -- a cell is its net and its cycle
 pub cell_by : (c d : Cell) → c.net ≡ d.net → c.cycle ≡ d.cycle → c ≡ d
@@ -46,3 +48,22 @@ before_apart c d h = grind (arith, nat_tests)
 
 pub before_trans : (c d e : Cell) → IsTrue (is_cell_before c d) → IsTrue (is_cell_before d e) → IsTrue (is_cell_before c e)
 before_trans c d e a b = grind (arith, nat_tests)
+
+-- a fact is its cell and its word
+pub fact_by : (f g : Fact) → f.cell ≡ g.cell → f.value ≡ g.value → f ≡ g
+fact_by f g cell value = ap₂ fact cell value
+
+pub same_fact : (f g : Fact) → is_fact f g ≡ true → f ≡ g
+same_fact f g e = let parts = and_parts (is_cell f.cell g.cell) (f.value == g.value) e in fact_by f g (same_cell f.cell g.cell parts.0) (eqb-true f.value g.value parts.1)
+
+pub fact_itself : (f : Fact) → is_fact f f ≡ true
+fact_itself f = and_from (is_cell f.cell f.cell) (f.value == f.value) (cell_itself f.cell) (eq-eqb f.value f.value refl)
+
+pub other_fact : (f g : Fact) → (f ≡ g → ⊥) → not (is_fact f g) ≡ true
+other_fact f g differ = elim (is_fact f g) as (λ b. is_fact f g ≡ b → not b ≡ true) [ true ↦ λ e. absurd (differ (same_fact f g e)) | false ↦ λ _. refl ] refl
+
+pub same_or_other_fact : (f g : Fact) → (f ≡ g) ⊎ (f ≢ g)
+same_or_other_fact f g = elim (same_or_other f.cell g.cell) [
+  | inl cell ↦ elim (cases_eq f.value g.value) [ inl value ↦ inl (fact_by f g cell value) | inr differ ↦ inr (λ e. differ (ap (λ (f : Fact). f.value) e)) ]
+  | inr differ ↦ inr (λ e. differ (ap (λ (f : Fact). f.cell) e))
+]

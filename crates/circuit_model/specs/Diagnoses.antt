@@ -52,6 +52,10 @@ DiagnosesAreHittingSets = (P : Circuit) (D : Set ℕ) → IsDiagnosis P D ↔ (I
 abbrev pub ReadingsAreConsistent : Type 0
 ReadingsAreConsistent = (P : Circuit) (C : Set ℕ) → ((k : ℕ) → IsTrue (C k) → ⊥) → AreRefuted P C → ⊥
 
+-- no conflict is empty
+abbrev pub NoConflictIsEmpty : Type 0
+NoConflictIsEmpty = (P : Circuit) (C : Set ℕ) → IsConflict P C → ((k : ℕ) → IsTrue (C k) → ⊥) → ⊥
+
 -- where the conflicts can be listed there is a diagnosis
 abbrev pub SomeDiagnosis : Type 0
 SomeDiagnosis = (P : Circuit) (xs : List (Set ℕ)) → ((C : Set ℕ) → IsIn xs C ↔ IsConflict P C) → (D : Set ℕ) × IsDiagnosis P D

@@ -73,6 +73,10 @@ width_of s net = width_in s.nets net
 abbrev pub is_cell : Cell → Cell → Bool
 is_cell c d = (c.net == d.net) && (c.cycle == d.cycle)
 
+-- one fact and no other
+abbrev pub is_fact : Fact → Fact → Bool
+is_fact f g = is_cell f.cell g.cell && (f.value == g.value)
+
 -- by net, then by cycle
 abbrev pub is_cell_before : Cell → Cell → Bool
 is_cell_before c d = nat_lt c.net d.net || ((c.net == d.net) && nat_lt c.cycle d.cycle)

@@ -2,7 +2,7 @@
 
 ghost use Rattle.circuit_model.specs.Decided.{ListedLabelsDecide, ListedNogoodsDecide, SettledListsAreExact, LastRoundsAreClosures, LastRoundsDecideClashes};
 ghost use Rattle.circuit_model.specs.Derivation.{ValidDerivationsAreTrue, CanonicalDerivationsAreValid};
-ghost use Rattle.circuit_model.specs.Diagnoses.{DiagnosesAreHittingSets, SomeDiagnosis, NoCircuitLacksADiagnosis, ReadingsAreConsistent};
+ghost use Rattle.circuit_model.specs.Diagnoses.{DiagnosesAreHittingSets, SomeDiagnosis, NoCircuitLacksADiagnosis, ReadingsAreConsistent, NoConflictIsEmpty};
 ghost use Rattle.circuit_model.specs.Laws.{ClosuresGrow, SubsetsAreConsistent, ClosuresAreClosed, LabelsOfAPart, NogoodsOfAPart, OneMoreForLabels, OneMoreForNogoods, ListedLabelsCover};
 ghost use Rattle.circuit_model.specs.Load.{LoadsGrow};
 ghost use Rattle.circuit_model.specs.Printed.{PrintedLabelsAreUnique};
@@ -115,6 +115,11 @@ pub fn diagnoses_are_hitting_sets()
 /// The measurements alone never clash.
 pub fn readings_are_consistent()
     ensures { ReadingsAreConsistent }
+{}
+
+/// No conflict is empty: each has a component.
+pub fn no_conflict_is_empty()
+    ensures { NoConflictIsEmpty }
 {}
 
 /// Where the conflicts can be listed there is a diagnosis.

@@ -23,7 +23,7 @@ pub use laws::{
     labels_are_the_same_under_other_names, labels_of_fewer_assumptions,
     labels_with_one_more_assumption, last_rounds_are_closures, last_rounds_decide_clashes,
     listed_labels_cover, listed_labels_decide, listed_nogoods_decide, no_circuit_lacks_a_diagnosis,
-    nogoods_are_the_same_under_other_names, nogoods_of_fewer_assumptions,
+    no_conflict_is_empty, nogoods_are_the_same_under_other_names, nogoods_of_fewer_assumptions,
     nogoods_with_one_more_assumption, part_of_a_consistent_environment, printed_labels_are_unique,
     readings_are_consistent, settled_lists_are_exact, there_is_a_diagnosis, two_predictions_split,
     two_words_split, valid_derivations_are_true,

@@ -1,10 +1,11 @@
 -- Lists of exactly what has a property.
-use Rattle.std.proofs.Common.{◌≡◌, ℕ, zero, suc, ◌<◌, ◌⊎◌, inl, inr, Bool, true, false, cond, IsTrue, true≢false, List, [], ◌∷◌, ◌++◌, length, get_or, map, refl, sym, ap, ap₂, subst, ◌∙◌, arith}
+use Rattle.std.proofs.Common.{◌≡◌, ℕ, zero, suc, ◌<◌, ◌⊎◌, inl, inr, Bool, true, false, cond, IsTrue, true≢false, List, [], ◌∷◌, ◌++◌, length, get_or, take, map, Option, Some, None, IsSome, slice_get, ◌+◌, refl, sym, ap, ap₂, subst, ◌∙◌, arith}
 use Rattle.std.specs.List.{filter}
-use Rattle.std.proofs.lemmas.List.{map-append}
+use Rattle.std.proofs.lemmas.List.{map-append, take_more}
+use Rattle.std.proofs.lemmas.Option.{slice_get_within, get_or_from_slice_get}
 use Rattle.environment_sets.specs.declared.environment.Env.{Env}
 use Rattle.environment_sets.specs.Members.{members, sets}
-use Rattle.environment_sets.specs.Lists.{IsIn, IsRising, IsStrict, IsListing}
+use Rattle.environment_sets.specs.Lists.{IsIn, IsRising, IsStrict, AreDistinct, IsListing}
 
 module _ {X : Type 0} where
   pub IsIn-get_or : (xs : List X) (i : ℕ) (d : X) → i < length xs → IsIn xs (get_or xs i d)
@@ -104,3 +105,18 @@ module _ {X Y : Type 0} (f : X → Y) where
 -- the sets of a list with one environment more
 pub sets-push : (es : List Env) (e : Env) → sets (es ++ e ∷ []) ≡ sets es ++ members e ∷ []
 sets-push es e = map-append members es (e ∷ [])
+
+-- the front of a list with one element more
+pub take_one_more : {X : Type 0} (xs : List X) (i : ℕ) (x : X) → slice_get xs i ≡ Some x → take (i + 1) xs ≡ take i xs ++ x ∷ []
+take_one_more xs i x e = take_more xs i x (slice_get_within xs i x e) ∙ ap (λ y. take i xs ++ y ∷ []) (get_or_from_slice_get xs i x x e)
+
+-- what rises in a strict order is distinct
+pub rising_is_distinct : {X : Type 0} (before : X → X → Type 0) → IsStrict before → (xs : List X) → IsRising before xs → AreDistinct xs
+rising_is_distinct before strict [] rising = tt
+rising_is_distinct before strict (x ∷ xs) rising =
+    (λ y at same. let first : before x y = rising.0 y at in strict x y first (subst (λ z. before z x) same (subst (λ z. before x z) (sym same) first)), rising_is_distinct before strict xs rising.1)
+
+-- nothing is no thing
+pub none_is_not : {X : Type 0} (o : Option X) → o ≡ None → IsSome o → ⊥
+none_is_not None e h = true≢false (sym h)
+none_is_not (Some x) e h = cc

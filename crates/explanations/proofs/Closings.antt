@@ -9,23 +9,13 @@ use Rattle.circuit_model.specs.Closure.{fact, ClashesAt}
 use Rattle.circuit_model.specs.Diagnoses.{Place}
 use Rattle.circuit_model.specs.Derivation.{IsAssumed, HoldsAt, IsRoundOf}
 use Rattle.circuit_model.specs.Present.{PresentView, IsLawful, circuit_of}
-use Rattle.circuit_model.proofs.SameCells.{same_or_other}
+use Rattle.circuit_model.proofs.SameCells.{same_or_other, fact_by, same_or_other_fact}
 use Rattle.circuit_model.proofs.Rounds.{Holds-later}
 use Rattle.proof_check.specs.declared.derivation.Ending.{Ending}
 use Rattle.proof_check.specs.Closing.{Timed, ClosedView, EndsAt, Closes}
 use Rattle.proof_check.proofs.Fitting.{follows_fits}
 use Rattle.explanations.specs.Words.{word_by, TellsRound, HasFitting}
 use Rattle.explanations.proofs.Listed.{IsListed, word_by-listed, listed-word_by}
-
--- a fact is its cell and its word
-fact_by : (f g : Fact) → f.cell ≡ g.cell → f.value ≡ g.value → f ≡ g
-fact_by f g cell value = ap₂ fact cell value
-
-same_fact : (f g : Fact) → (f ≡ g) ⊎ (f ≢ g)
-same_fact f g = elim (same_or_other f.cell g.cell) [
-  | inl cell ↦ elim (cases_eq f.value g.value) [ inl value ↦ inl (fact_by f g cell value) | inr differ ↦ inr (λ e. differ (ap (λ (f : Fact). f.value) e)) ]
-  | inr differ ↦ inr (λ e. differ (ap (λ (f : Fact). f.cell) e))
-]
 
 -- the fact stands in the list, with its round
 pub record HasTimed (facts : List Timed) (f : Fact) : Type 0 where
@@ -35,7 +25,7 @@ pub record HasTimed (facts : List Timed) (f : Fact) : Type 0 where
 
 timed_or_not : (facts : List Timed) (f : Fact) → HasTimed facts f ⊎ ((t : Timed) → IsIn facts t → t.fact ≡ f → ⊥)
 timed_or_not [] f = inr (λ t (bad : ⊥) e. bad)
-timed_or_not (u ∷ facts) f = elim (same_fact u.fact f) [
+timed_or_not (u ∷ facts) f = elim (same_or_other_fact u.fact f) [
   | inl e ↦ inl (record { timed = u; there = inl refl; is = e })
   | inr differ ↦ elim (timed_or_not facts f) [
     | inl h ↦ inl (record { timed = h.timed; there = inr h.there; is = h.is })

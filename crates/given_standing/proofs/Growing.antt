@@ -21,10 +21,7 @@ use Rattle.standing_view.proofs.Growing.{one_component_more, one_measurement_mor
 use Rattle.standing_view.proofs.Inserted.{not_measured}
 use Rattle.standing_view.proofs.Named.{free_slots_do_not_stand}
 use Rattle.given_standing.specs.Fronts.{with_first_parts, with_first_readings}
-
--- one element more
-front_more : {X : Type 0} (xs : List X) (i : ℕ) (x : X) → slice_get xs i ≡ Some x → take (i + 1) xs ≡ take i xs ++ x ∷ []
-front_more xs i x at = take_more xs i x (slice_get_within xs i x at) ∙ ap (λ y. take i xs ++ y ∷ []) (get_or_from_slice_get xs i x x at)
+use Rattle.environment_sets.proofs.Listings.{take_one_more}
 
 -- ---- measurements in order
 
@@ -73,7 +70,7 @@ module _ (S : Stock ℕ) (st : Stands) (s : PresentView) where
     pub one_part_more : (R : Stock ℕ) (slot : ℕ) (c : Component) (part : List Instance) → slice_get s.parts i ≡ Some c → part ≡ c.part → StandsFor S st (with_first_parts i s) [] → Remembers S slot (Part part) R → StandsFor R (with_part_at slot st) (with_first_parts (i + 1) s) []
     one_part_more R slot c part at same h remembers =
         let more : StandsFor R (with_part_at slot st) (with_part c (with_first_parts i s)) [] = one_component_more S R st (with_first_parts i s) [] slot c h (subst (λ (p : List Instance). Remembers S slot (Part p) R) same remembers) in
-        subst (λ (parts : List Component). StandsFor R (with_part_at slot st) (record s { parts = parts; readings = [] }) []) (sym (front_more s.parts i c at)) more
+        subst (λ (parts : List Component). StandsFor R (with_part_at slot st) (record s { parts = parts; readings = [] }) []) (sym (take_one_more s.parts i c at)) more
 
     pub reading_free : StandsFor S st (with_first_readings i s) [] → (slot : ℕ) → S slot ≡ None → IsIn (order_of st) slot → ⊥
     reading_free h slot free = free_slots_do_not_stand S st (with_first_readings i s) [] h slot free
@@ -88,4 +85,4 @@ module _ (S : Stock ℕ) (st : Stands) (s : PresentView) where
       pub one_reading_more : (R : Stock ℕ) (slot : ℕ) → Remembers S slot (Reading f) R → StandsFor R (with_reading_at slot f.cell st) (with_first_readings (i + 1) s) []
       one_reading_more R slot remembers =
           let more : StandsFor R (with_reading_at slot f.cell st) (with_standing f (with_first_readings i s)) [] = one_measurement_more S R st (with_first_readings i s) [] slot f h (reading_later f (take i s.readings) before) (λ none. absurd none) remembers in
-          subst (λ (readings : List Fact). StandsFor R (with_reading_at slot f.cell st) (record s { readings = readings }) []) (reading_last f (take i s.readings) before ∙ sym (front_more s.readings i f at)) more
+          subst (λ (readings : List Fact). StandsFor R (with_reading_at slot f.cell st) (record s { readings = readings }) []) (reading_last f (take i s.readings) before ∙ sym (take_one_more s.readings i f at)) more

@@ -5,6 +5,7 @@ use Rattle.index_lists.specs.Lists.{Lists, list_at, AreSame, Changes}
 use Rattle.index_lists.specs.Chains.{no_lists}
 use Rattle.index_lists.specs.Kept.{lane_of, IsWider, AreKept}
 use Rattle.index_lists.proofs.Links.{same_or_not, none_is_no_some}
+use Rattle.environment_sets.proofs.Listings.{none_is_not}
 
 module _ {T : Type 0} (records : List (Option T)) (lanes lanes' : List Lists) (lane : ℕ) (kept : AreKept records lanes) (long : length lanes' ≡ length lanes) (others : (l : ℕ) → l ≢ lane → lane_of lanes' l ≡ lane_of lanes l) where
   -- what one lane is changed to
@@ -40,10 +41,6 @@ kept_wider records lanes lanes' kept long wider = record {
   room = λ l k low some. let was : k < (lane_of lanes l).room = kept.room l k low some in omega (arith, (wider l).grows);
   there = λ l h k i. kept.there l h k (let P : List ℕ → Type 0 = λ s. IsIn s k in subst P ((wider l).keys h) i);
 }
-
-none_is_not : {T : Type 0} (o : Option T) → o ≡ None → IsSome o → ⊥
-none_is_not None e h = true≢false (sym h)
-none_is_not (Some x) e h = none_is_no_some x (sym e)
 
 -- one record less, of a key in no list
 pub kept_taken :

@@ -13,8 +13,8 @@ use Rattle.assumption_slots.specs.Slots.{stock}
 use Rattle.inference_search.specs.Inferences.{facts, inference, RecordedIn}
 use Rattle.inference_search.specs.Choices.{Finds, IsTold, IsMadeAt, IsMadeAtSome, IsDoneAt, clash_of, IsClashOf, HasClashOf}
 use Rattle.inference_search.specs.Found.{AreFound, AreMadeBy}
-use Rattle.inference_search.proofs.Trying.{same_fact}
 use Rattle.assumption_slots.proofs.Remembered.{stock_within}
+use Rattle.circuit_model.proofs.SameCells.{fact_by}
 
 -- known words that use the fact are from the fact and what is met at other cells
 held_from : (met from : List Fact) (f : Fact) → IsIn from f → ((g : Fact) → IsIn met g → (g.cell ≡ f.cell) ⊎ IsIn from g)
@@ -30,7 +30,7 @@ held_from met from f has others cells known held used = record {
   at_cell : (p v : ℕ) (c : Cell) → slice_get known p ≡ Some (Some v) → slice_get cells p ≡ Some c → c ≡ f.cell → IsIn from (fact c v)
   at_cell p v c e d one =
       let same : v ≡ f.value = held.alike p used.port v f.value c e d used.word (used.cell ∙ ap Some (sym one)) in
-      subst (λ (g : Fact). IsIn from g) (sym (same_fact (fact c v) f one same)) has
+      subst (λ (g : Fact). IsIn from g) (sym (fact_by (fact c v) f one same)) has
 
 -- the clash of two words at one cell
 clash_leads : (slots : List (Option Assumption)) (f : Fact) (i : Inferred) → IsClashOf f i → IsIn (facts i.first i.second) f × Leads (stock slots) (facts i.first i.second) i.maker i.to
@@ -43,7 +43,7 @@ clash_leads slots f i (g, one, differ, is) = subst P (sym is) (
       low = f.value;
       high = g.value;
       low_holds = inl refl;
-      high_holds = inr (inl (same_fact g (fact f.cell g.value) one refl));
+      high_holds = inr (inl (fact_by g (fact f.cell g.value) one refl));
       differ = λ e. differ (sym e);
     },
   ),

@@ -9,13 +9,11 @@ use Rattle.environment_sets.specs.Lists.{IsIn}
 use Rattle.inference_search.specs.declared.inferred.Inferred.{Inferred}
 use Rattle.inference_search.specs.Choices.{AreAlike, Uses, IsTold, AreAllDone, IsDoneFrom, AreTries, AreChoices}
 use Rattle.circuit_model.proofs.Inferences.{Forces-of_ports}
-
-pub same_fact : (f g : Fact) → f.cell ≡ g.cell → f.value ≡ g.value → f ≡ g
-same_fact f g c v = ap (λ (c : Cell). fact c f.value) c ∙ ap (λ (v : ℕ). fact g.cell v) v
+use Rattle.circuit_model.proofs.SameCells.{fact_by}
 
 AreAlike-held : (H : Fact → Type 0) (cells : List Cell) (known : List (Option ℕ)) → AreHeld H cells known → AreAlike cells known
 AreAlike-held H cells known held f g there here one =
-    same_fact f g one (held.alike there.port here.port f.value g.value f.cell there.word there.cell here.word (here.cell ∙ ap Some (sym one)))
+    fact_by f g one (held.alike there.port here.port f.value g.value f.cell there.word there.cell here.word (here.cell ∙ ap Some (sym one)))
 
 -- a fact that is at none of the cells is not used
 pub not_used : (must : Option Fact) (cells : List Cell) (known : List (Option ℕ)) → (must ≡ None → ⊥) → ((p : ℕ) (f : Fact) → must ≡ Some f → slice_get cells p ≡ Some f.cell → ⊥) → Uses must cells known → ⊥

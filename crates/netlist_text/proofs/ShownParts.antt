@@ -11,6 +11,7 @@ use Rattle.bench_io.proofs.PutParts.{Puts-then, Puts-as}
 use Rattle.circuit_model.specs.Blocks.{empty_block}
 use Rattle.circuit_model.specs.Present.{PresentView, block_at}
 use Rattle.netlist_text.specs.Show.{after_spaces, spaced, words_in, text_of_lines, net_words, block_lines, component_words, cost_lines, mode_words, reading_words, text_of}
+use Rattle.environment_sets.proofs.Listings.{take_one_more}
 
 pub after_spaces-append : (xs ys : List (List ℕ)) → after_spaces (xs ++ ys) ≡ after_spaces xs ++ after_spaces ys
 after_spaces-append [] ys = refl
@@ -38,22 +39,19 @@ pub text_of_lines-append : (xs ys : List (List (List ℕ))) → text_of_lines (x
 text_of_lines-append [] ys = refl
 text_of_lines-append (x ∷ xs) ys = ap (λ t. spaced x ++ 10 ∷ t) (text_of_lines-append xs ys) ∙ sym (append_assoc (spaced x) (10 ∷ text_of_lines xs) (text_of_lines ys))
 
-take-place : {X : Type 0} (xs : List X) (i : ℕ) (x : X) → slice_get xs i ≡ Some x → take (i + 1) xs ≡ take i xs ++ x ∷ []
-take-place xs i x e = take_more xs i x (slice_get_within xs i x e) ∙ ap (λ y. take i xs ++ y ∷ []) (get_or_from_slice_get xs i x x e)
-
 module _ {X : Type 0} {x y z : Bool} {a b c : Telling} (xs : List X) (i : ℕ) (element : X) (e : slice_get xs i ≡ Some element) where
   -- the lines of one element more
   pub Puts-lines_more : (lines : X → List (List (List ℕ))) → Puts x y a b (text_of_lines (flat_map lines (take i xs))) → Puts y z b c (text_of_lines (lines element)) → Puts x z a c (text_of_lines (flat_map lines (take (i + 1) xs)))
   Puts-lines_more lines p q =
       let more : flat_map lines (take (i + 1) xs) ≡ flat_map lines (take i xs) ++ lines element =
-      ap (flat_map lines) (take-place xs i element e) ∙ (flat_map-append lines (take i xs) (element ∷ []) ∙ ap (λ t. flat_map lines (take i xs) ++ t) (append-nil (lines element))) in
+      ap (flat_map lines) (take_one_more xs i element e) ∙ (flat_map-append lines (take i xs) (element ∷ []) ∙ ap (λ t. flat_map lines (take i xs) ++ t) (append-nil (lines element))) in
       Puts-as (sym (ap text_of_lines more ∙ text_of_lines-append (flat_map lines (take i xs)) (lines element))) (Puts-then p q)
 
   -- the line of one element more
   pub Puts-line_more : (words : X → List (List ℕ)) → Puts x y a b (text_of_lines (map words (take i xs))) → Puts y z b c (text_of_lines (words element ∷ [])) → Puts x z a c (text_of_lines (map words (take (i + 1) xs)))
   Puts-line_more words p q =
       let more : map words (take (i + 1) xs) ≡ map words (take i xs) ++ words element ∷ [] =
-      ap (map words) (take-place xs i element e) ∙ map-append words (take i xs) (element ∷ []) in
+      ap (map words) (take_one_more xs i element e) ∙ map-append words (take i xs) (element ∷ []) in
       Puts-as (sym (ap text_of_lines more ∙ text_of_lines-append (map words (take i xs)) (words element ∷ []))) (Puts-then p q)
 
 -- a line whose words are put in two parts
@@ -66,7 +64,7 @@ reading-line cell digits = ap (λ t. ((t ++ codes " ") ++ digits) ++ codes "\n")
 
 -- one name more
 pub names-more : {X : Type 0} (f : X → List ℕ) (xs : List X) (i : ℕ) (x : X) → slice_get xs i ≡ Some x → after_spaces (map f (take i xs)) ++ after_spaces (f x ∷ []) ≡ after_spaces (map f (take (i + 1) xs))
-names-more f xs i x e = sym (ap (λ t. after_spaces (map f t)) (take-place xs i x e) ∙ (ap after_spaces (map-append f (take i xs) (x ∷ [])) ∙ after_spaces-append (map f (take i xs)) (f x ∷ [])))
+names-more f xs i x e = sym (ap (λ t. after_spaces (map f t)) (take_one_more xs i x e) ∙ (ap after_spaces (map-append f (take i xs) (x ∷ [])) ∙ after_spaces-append (map f (take i xs)) (f x ∷ [])))
 
 -- a row of three
 pub three-names : {Y : Type 0} (f : ℕ → Y) (xs : List ℕ) → length xs ≡ 3 → f (get_or xs 0 0) ∷ f (get_or xs 1 0) ∷ f (get_or xs 2 0) ∷ [] ≡ map f xs

@@ -8,14 +8,14 @@ use Rattle.environment_sets.specs.Lists.{IsIn}
 use Rattle.circuit_model.specs.declared.model.Fact.{Fact}
 use Rattle.circuit_model.specs.Blocks.{BlockView}
 use Rattle.circuit_model.specs.Closure.{fact}
-use Rattle.circuit_model.specs.Present.{PresentView, is_cell, block_at, without_last, IsLawful}
-use Rattle.circuit_model.proofs.SameCells.{same_cell, cell_itself}
+use Rattle.circuit_model.specs.Present.{PresentView, is_cell, block_at, without_last, IsLawful, is_fact}
+use Rattle.circuit_model.proofs.SameCells.{same_fact, fact_itself}
 use Rattle.circuit_model.proofs.Presents.{IsLawful-without_last, IsLawful-with_cycles}
 use Rattle.circuit_model.proofs.PresentChanges.{IsLawful-with_cost, IsLawful-without_last_mode, IsLawful-without_last_net, IsLawful-without_last_block, IsLawful-change_block, lawful_without_last_pin, lawful_without_last_inner}
 use Rattle.circuit_model.proofs.Readings.{IsIn-with_reading, IsLawful-with_standing, IsLawful-without_standing}
 use Rattle.present_history.specs.declared.undoing.Undoing.{Undoing}
 use Rattle.present_history.specs.declared.undoing.Undoing.TheVariants as back
-use Rattle.present_history.specs.Earlier.{measures, some_measures, earlier_of, MayUndoEach, retracted_by, retracted, is_fact, retracts}
+use Rattle.present_history.specs.Earlier.{measures, some_measures, earlier_of, MayUndoEach, retracted_by, retracted, retracts}
 use Rattle.present_history.specs.Laws.{EarlierAreFirst, KeepsChange}
 use Rattle.present_history.specs.Undoing.{undone, MayUndo, undoing_of, TakesBack}
 use Rattle.netlist_text.specs.Checks.{checks_of_change, first_misfit}
@@ -196,12 +196,6 @@ stood_or_retracted s us h f e = elim (what_stood s us f e) as (λ _. (measures s
   | inl listed ↦ inl (measured-IsIn s f h listed)
   | inr gone ↦ inr gone
 ]
-
-same_fact : (f g : Fact) → is_fact f g ≡ true → f ≡ g
-same_fact f g e = let p = and_parts (is_cell f.cell g.cell) (f.value == g.value) e in ap₂ fact (same_cell f.cell g.cell p.0) (eqb-true f.value g.value p.1)
-
-fact_itself : (f : Fact) → is_fact f f ≡ true
-fact_itself f = and_from (is_cell f.cell f.cell) (f.value == f.value) (cell_itself f.cell) (eq-eqb f.value f.value refl)
 
 module _ (f : Fact) where
   passes : (o : Option Fact) → option_map_or (is_fact f) o false ≡ true → o ≡ Some f

@@ -3,7 +3,7 @@ use Rattle.std.specs.Prelude.{Bool, false, ◌==◌, ◌&&◌, List, [], ◌∷�
 use Rattle.std.specs.List.{list_any, filter_map}
 use Rattle.std.specs.Option.{option_map_or}
 use Rattle.circuit_model.specs.declared.model.Fact.{Fact}
-use Rattle.circuit_model.specs.Present.{PresentView, is_cell, reading_in}
+use Rattle.circuit_model.specs.Present.{PresentView, is_fact, reading_in}
 use Rattle.present_history.specs.Undoing.{undone, MayUndo}
 use Rattle.present_history.specs.declared.undoing.Undoing.{Undoing}
 use Rattle.present_history.specs.declared.undoing.Undoing.TheVariants as back
@@ -42,10 +42,6 @@ retracted_by (back.Retracted f) = Some f
 -- the measurements that were retracted, the newest first
 abbrev pub retracted : List Undoing → List Fact
 retracted us = filter_map retracted_by us
-
--- the two measurements are the same
-abbrev pub is_fact : Fact → Fact → Bool
-is_fact f g = is_cell f.cell g.cell && (f.value == g.value)
 
 -- the change retracted the measurement
 abbrev pub retracts : Fact → Undoing → Bool

@@ -3,7 +3,8 @@ ghost use Rattle.std.specs.Prelude.{◌≡◌, ◌≤◌, ◌↔◌, [], ◌∷�
 ghost use Rattle.std.specs.List.{list_any};
 ghost use Rattle.environment_sets.specs.Lists.{IsIn};
 ghost use Rattle.circuit_model.specs.declared.limits.TheConstants.{MOST_EARLIER};
-ghost use Rattle.present_history.specs.Earlier.{is_fact, retracted};
+ghost use Rattle.circuit_model.specs.Present.{is_fact};
+ghost use Rattle.present_history.specs.Earlier.{retracted};
 ghost use Rattle.present_history.specs.Earlier as spec;
 
 use crate::undoing::Undoing;

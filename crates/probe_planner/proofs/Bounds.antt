@@ -15,9 +15,7 @@ use Rattle.environment_sets.specs.Sets.{Set}
 use Rattle.standing_view.specs.Standing.{Stands}
 use Rattle.probe_planner.specs.Weighing.{weight_at}
 use Rattle.probe_planner.specs.Words.{score_with, score_by}
-
-sum-cons : (x : ℕ) (xs : List ℕ) → sum (x ∷ xs) ≡ x + sum xs
-sum-cons x xs = sum_by-cons (λ (n : ℕ). n) x xs
+use Rattle.environment_sets.proofs.CostSums.{sum-cons}
 
 -- what a word and all words after it count is no more than their weight, times the weight of all
 words_le : (silent total : ℕ) (xs : List ℕ) → sum xs + silent ≤ total → sum_by (λ s. s * (s + silent)) xs ≤ sum xs * total

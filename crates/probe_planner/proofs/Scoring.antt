@@ -9,6 +9,7 @@ use Rattle.environment_sets.specs.Lists.{IsIn, IsRising, AreDistinct}
 use Rattle.environment_sets.proofs.Membership.{same_bool}
 use Rattle.circuit_model.specs.Probe.{Prediction, is_word, is_silent, total_weight, word_weight, silent_weight, agreeing_weight, score}
 use Rattle.probe_planner.specs.Words.{score_with, score_by}
+use Rattle.environment_sets.proofs.CostSums.{sum-cons}
 
 -- ---- sums of products
 
@@ -237,9 +238,6 @@ total_by_sets W word (D ∷ Ds) =
     ∙ (ap (λ n. W D + n) (total_by_sets W word Ds) ∙ sym (sum_by-cons (λ (n : ℕ). n) (W D) (map W Ds)))
 
 -- ---- words of one weight each
-
-sum-cons : (x : ℕ) (xs : List ℕ) → sum (x ∷ xs) ≡ x + sum xs
-sum-cons x xs = sum_by-cons (λ (n : ℕ). n) x xs
 
 sum_none : {X : Type 0} (f : X → ℕ) (vs : List X) → ((v : X) → IsIn vs v → f v ≡ 0) → sum (map f vs) ≡ 0
 sum_none f [] none = refl

@@ -12,10 +12,7 @@ use Rattle.environment_sets.specs.Sets.{Set, others}
 use Rattle.standing_view.specs.Positions.{positions}
 use Rattle.standing_view.specs.Standing.{nothing_stands}
 use Rattle.standing_view.specs.View.{StandsFor}
-
-none_is_not : {A : Type 0} (o : Option A) → o ≡ None → IsSome o → ⊥
-none_is_not None e h = true≢false (sym h)
-none_is_not (Some x) e h = cc
+use Rattle.environment_sets.proofs.Listings.{none_is_not}
 
 module _ (S : Stock ℕ) (s : PresentView) (free : (k : ℕ) → S k ≡ None) (parts : s.parts ≡ []) (readings : s.readings ≡ []) where
   pub stands_for_nothing : StandsFor S nothing_stands s []

@@ -3,7 +3,7 @@ use Rattle.std.proofs.Common.{◌≡◌, ◌↔◌, ℕ, ◌+◌, ◌<◌, ◌�
 use Rattle.std.proofs.lemmas.List.{take_more, length-take, map-append}
 use Rattle.std.proofs.lemmas.Option.{slice_get_within, get_or_from_slice_get}
 use Rattle.environment_sets.specs.Lists.{IsIn}
-use Rattle.environment_sets.proofs.Listings.{IsIn-push, IsIn-front, IsIn-last}
+use Rattle.environment_sets.proofs.Listings.{IsIn-push, IsIn-front, IsIn-last, take_one_more}
 use Rattle.environment_sets.proofs.Membership.{IsIn-slice_get, slice_get-IsIn}
 use Rattle.circuit_model.specs.declared.chosen.Chosen.{Chosen}
 use Rattle.circuit_model.specs.declared.model.Fact.{Fact}
@@ -20,20 +20,17 @@ use Rattle.proof_check.specs.Turns.{at_round, HasAll, AreSeparate}
 use Rattle.proof_check.proofs.Assumed.{cell_chosen, HasReading, reading_assumed, assumed_reading}
 use Rattle.proof_check.proofs.Ordered.{IsRising-places, not_before_itself}
 
-pub take_push : {X : Type 0} (xs : List X) (i : ℕ) (x : X) → slice_get xs i ≡ Some x → take (i + 1) xs ≡ take i xs ++ x ∷ []
-take_push xs i x e = take_more xs i x (slice_get_within xs i x e) ∙ ap (λ y. take i xs ++ y ∷ []) (get_or_from_slice_get xs i x x e)
-
 -- one fact more at its round
 pub listed_more : (timed old : List Timed) (found : List Fact) (i round : ℕ) (f : Fact) (new : List Timed) → slice_get found i ≡ Some f → timed ≡ old ++ map (at_round round) (take i found) → new ≡ timed ++ at_round round f ∷ [] → new ≡ old ++ map (at_round round) (take (i + 1) found)
 listed_more timed old found i round f new e was is =
-    let more : map (at_round round) (take (i + 1) found) ≡ map (at_round round) (take i found) ++ at_round round f ∷ [] = ap (λ (fs : List Fact). map (at_round round) fs) (take_push found i f e) ∙ map-append (at_round round) (take i found) (f ∷ []) in
+    let more : map (at_round round) (take (i + 1) found) ≡ map (at_round round) (take i found) ++ at_round round f ∷ [] = ap (λ (fs : List Fact). map (at_round round) fs) (take_one_more found i f e) ∙ map-append (at_round round) (take i found) (f ∷ []) in
     is ∙ (ap (λ (ts : List Timed). ts ++ at_round round f ∷ []) was ∙ (append_assoc old (map (at_round round) (take i found)) (at_round round f ∷ []) ∙ ap (λ (ts : List Timed). old ++ ts) (sym more)))
 
 module _ (found old now : List Fact) (i : ℕ) (f : Fact) (at : slice_get found i ≡ Some f) (was : HasAll (take i found) old now) where
   pub held_more : (new : List Fact) → HasPut f now new → HasAll (take (i + 1) found) old new
   held_more new put g = (λ h. to ((put g).0 h), λ h. (put g).1 (from h)) where
     pushed : take (i + 1) found ≡ take i found ++ f ∷ []
-    pushed = take_push found i f at
+    pushed = take_one_more found i f at
 
     inside : IsIn (take i found ++ f ∷ []) g → IsIn (take (i + 1) found) g
     inside h = let Q : List Fact → Type 0 = λ fs. IsIn fs g in subst Q (sym pushed) h

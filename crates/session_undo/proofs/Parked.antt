@@ -6,7 +6,7 @@ use Rattle.circuit_model.specs.Closure.{fact}
 use Rattle.circuit_model.specs.declared.model.Cell.{Cell}
 use Rattle.circuit_model.specs.declared.model.Fact.{Fact}
 use Rattle.circuit_model.specs.Present.{PresentView, is_cell, reading_in, with_standing}
-use Rattle.circuit_model.proofs.SameCells.{same_cell, cell_itself}
+use Rattle.circuit_model.proofs.SameCells.{same_cell, cell_itself, fact_by, same_or_other_fact}
 use Rattle.circuit_model.proofs.Readings.{reading_in-with_reading}
 use Rattle.environment_sets.specs.Lists.{IsIn}
 use Rattle.environment_sets.proofs.Listings.{IsIn-filter, IsIn-kept}
@@ -14,7 +14,8 @@ use Rattle.present_history.specs.declared.undoing.Undoing.{Undoing}
 use Rattle.present_history.specs.declared.undoing.Undoing.TheVariants.{Retracted}
 use Rattle.present_history.specs.Earlier.{measures, retracted}
 use Rattle.standing_view.specs.View.{without_fact}
-use Rattle.standing_changes.proofs.Alike.{AreAlike, same_fact_or_not, is_other, among_others}
+use Rattle.standing_view.proofs.Parked.{is_other, among_others}
+use Rattle.standing_changes.proofs.Alike.{AreAlike}
 use Rattle.session_undo.specs.Remembering.{parked}
 
 true_not : (b : Bool) → IsTrue (not b) → b ≡ true → ⊥
@@ -79,12 +80,9 @@ module _ (s : PresentView) (f : Fact) (free : reading_in s.readings f.cell ≡ N
 
   pub only : (g : Fact) → measures more g ≡ true → (f ≡ g) ⊎ (measures s g ≡ true)
   only g h = elim (of_cond (is_cell f.cell g.cell) f.value g.value (reading_in s.readings g.cell) (sym (ap (is_word g.value) (reads g)) ∙ h)) [
-    | inl here ↦ inl (same_fact f g (same_cell f.cell g.cell here.0) here.1)
+    | inl here ↦ inl (fact_by f g (same_cell f.cell g.cell here.0) here.1)
     | inr before ↦ inr before
   ]
-    where
-      same_fact : (f g : Fact) → f.cell ≡ g.cell → f.value ≡ g.value → f ≡ g
-      same_fact f g c v = ap₂ (λ (cell : Cell) (value : ℕ). fact cell value) c v
 
   -- a measurement that stands again is parked no more
   pub stands_again : (us : List Undoing) → AreAlike (without_fact f (parked s us)) (parked more us)
@@ -112,7 +110,7 @@ module _ (s : PresentView) (f : Fact) (free : reading_in s.readings f.cell ≡ N
     ],
     λ h. let a = aside s (Retracted f ∷ us) g h in elim a.out [
       | inl same ↦ inl same
-      | inr k ↦ elim (same_fact_or_not f g) [
+      | inr k ↦ elim (same_or_other_fact f g) [
         | inl same ↦ inl same
         | inr other ↦ inr (is_parked more us g (record { out = k; gone = λ e. elim (only g e) [ inl same ↦ other same | inr before ↦ a.gone before ] }))
       ]
@@ -126,7 +124,7 @@ module _ (s : PresentView) (f : Fact) (free : reading_in s.readings f.cell ≡ N
       | inl same ↦ let P : Fact → Type 0 = λ x. IsAside s us x in is_parked s us g (subst P same (record { out = out; gone = not_before }))
       | inr k ↦ let a = aside more us g k in is_parked s us g (record { out = a.out; gone = λ e. a.gone (still g e) })
     ],
-    λ h. let a = aside s us g h in elim (same_fact_or_not f g) [
+    λ h. let a = aside s us g h in elim (same_or_other_fact f g) [
       | inl same ↦ inl same
       | inr other ↦ inr (is_parked more us g (record { out = a.out; gone = λ e. elim (only g e) [ inl same ↦ other same | inr before ↦ a.gone before ] }))
     ],

@@ -18,7 +18,7 @@ use Rattle.environment_sets.specs.Sets.{Set}
 use Rattle.environment_sets.specs.Walks.{GivesNext}
 use Rattle.environment_sets.proofs.Membership.{IsIn-slice_get}
 use Rattle.environment_sets.proofs.OrderLaws.{order_is_strict}
-use Rattle.standing_probe.proofs.Listed.{rising_is_distinct}
+use Rattle.environment_sets.proofs.Listings.{rising_is_distinct}
 use Rattle.standing_view.specs.Conflicts.{AreConflictsOf, IsConflictOf}
 use Rattle.standing_view.specs.Positions.{positions, AreInParts}
 use Rattle.standing_changes.specs.Remembered.{StandsWith}

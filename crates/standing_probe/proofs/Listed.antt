@@ -20,12 +20,7 @@ use Rattle.standing_view.specs.View.{StandsFor}
 use Rattle.standing_view.proofs.Named.{as_many_parts}
 use Rattle.standing_probe.specs.Laws.{FewDiagnosesAreListed}
 use Rattle.standing_probe.specs.Ranges.{AreInRange}
-
--- what rises in a strict order is distinct
-pub rising_is_distinct : {X : Type 0} (before : X → X → Type 0) → IsStrict before → (xs : List X) → IsRising before xs → AreDistinct xs
-rising_is_distinct before strict [] rising = tt
-rising_is_distinct before strict (x ∷ xs) rising =
-    (λ y at same. let first : before x y = rising.0 y at in strict x y first (subst (λ z. before z x) same (subst (λ z. before x z) (sym same) first)), rising_is_distinct before strict xs rising.1)
+use Rattle.environment_sets.proofs.Listings.{rising_is_distinct}
 
 low_or_more : (m n : ℕ) → (m ≤ n) ⊎ (n < m)
 low_or_more m n = grind arith

@@ -27,14 +27,11 @@ use Rattle.standing_view.specs.View.{StandsFor, slot_of, place_of, places}
 use Rattle.standing_view.specs.Laws.{SlotsNameThePresent, SlotsHaveItsLabels, SlotsHaveItsNogoods, IsTheSetOf, EnvironmentsAreSlots, SlotsAreEnvironments, TheMaskIsRemembered, TheMaskIsEverything, FreeSlotsDoNotStand}
 use Rattle.standing_view.proofs.Aligned.{StandBeside, in_first, from_first, from_second, alike_beside, one_alike, all_alike}
 use Rattle.standing_view.proofs.Places.{ordered_are_distinct, among_listed, listed_among, length-places, slot_is, slot_stands, place_is, place_stands}
+use Rattle.environment_sets.proofs.Listings.{none_is_not}
 
 mapped_some : {A B : Type 0} (f : A → B) (o : Option A) → IsSome (option_map f o) → (x : A) × (o ≡ Some x)
 mapped_some f None h = absurd (true≢false (sym h))
 mapped_some f (Some x) h = (x, refl)
-
-none_is_not : {A : Type 0} (o : Option A) → o ≡ None → IsSome o → ⊥
-none_is_not None e h = true≢false (sym h)
-none_is_not (Some x) e h = cc
 
 passes_at : {A : Type 0} (p : A → Bool) (o : Option A) (x : A) → o ≡ Some x → IsTrue (passes p o) → IsTrue (p x)
 passes_at p o x e h = rw e at h

@@ -7,43 +7,29 @@ use Rattle.circuit_model.specs.declared.model.Cell.{Cell}
 use Rattle.circuit_model.specs.declared.model.Fact.{Fact}
 use Rattle.circuit_model.specs.declared.model.Assumption.{Assumption}
 use Rattle.circuit_model.specs.declared.model.Assumption.TheVariants.{Reading}
-use Rattle.circuit_model.specs.Present.{PresentView, is_cell, is_cell_before}
+use Rattle.circuit_model.specs.Present.{PresentView, is_cell, is_cell_before, is_fact}
 use Rattle.circuit_model.specs.Stock.{Stock}
 use Rattle.environment_sets.specs.declared.environment.TheConstants.{SLOTS}
 use Rattle.environment_sets.specs.Lists.{IsIn}
 use Rattle.environment_sets.proofs.Membership.{IsIn-right, IsIn-slice_get}
 use Rattle.environment_sets.proofs.Listings.{IsIn-filter, IsIn-kept}
 use Rattle.standing_view.specs.Standing.{Stands, order_of, place_among, with_reading_at, without_reading_at}
-use Rattle.standing_view.specs.View.{StandsFor, IsParked, IsReadingOf, is_fact, without_fact}
+use Rattle.standing_view.specs.View.{StandsFor, IsParked, IsReadingOf, without_fact}
 use Rattle.standing_view.specs.Laws.{AReadingIsParked, AParkedReadingStands, AParkedReadingIsForgotten}
 use Rattle.standing_view.proofs.Growing.{same_or_not, some_is_not_none, same_reading, one_reading_more, parts_as_before, slots_as_before}
 use Rattle.standing_view.proofs.Inserted.{in_inserted, kept_inserted, there_inserted}
-use Rattle.circuit_model.proofs.SameCells.{same_cell, cell_itself}
+use Rattle.circuit_model.proofs.SameCells.{fact_itself, other_fact}
 use Rattle.standing_view.proofs.Removed.{map-remove, rising_removed, order_removed, in_removed, this_or_removed, not_in_removed}
 
--- one fact, by its test
-one_fact : (f g : Fact) → is_fact f g ≡ true → f ≡ g
-one_fact f g e =
-    let parts : (is_cell f.cell g.cell ≡ true) × ((f.value == g.value) ≡ true) = and_parts (is_cell f.cell g.cell) (f.value == g.value) e in
-    let cell : f.cell ≡ g.cell = same_cell f.cell g.cell parts.0 in
-    let value : f.value ≡ g.value = let h : (f.value == g.value) ≡ true = parts.1 in grind (arith, nat_tests) in
-    ap₂ (λ (c : Cell) (v : ℕ). let f : Fact = record { cell = c; value = v } in f) cell value
-
-fact_itself : (f : Fact) → is_fact f f ≡ true
-fact_itself f = and_from (is_cell f.cell f.cell) (f.value == f.value) (cell_itself f.cell) (grind (arith, nat_tests))
-
-other_fact : (f g : Fact) → (f ≡ g → ⊥) → not (is_fact f g) ≡ true
-other_fact f g ne = elim (is_fact f g) as (λ b. is_fact f g ≡ b → not b ≡ true) [ true ↦ λ e. absurd (ne (one_fact f g e)) | false ↦ λ _. refl ] refl
-
 -- another reading than this one is among the others
-among_others : (f g : Fact) (readings : List Fact) → IsIn readings g → (f ≡ g → ⊥) → IsIn (without_fact f readings) g
+pub among_others : (f g : Fact) (readings : List Fact) → IsIn readings g → (f ≡ g → ⊥) → IsIn (without_fact f readings) g
 among_others f g readings h ne = IsIn-kept (λ g. not (is_fact f g)) readings g h (other_fact f g ne)
 
-record IsOther (f g : Fact) (readings : List Fact) : Type 0 where
-  listed : IsIn readings g
-  other : f ≡ g → ⊥
+pub record IsOther (f g : Fact) (readings : List Fact) : Type 0 where
+  pub listed : IsIn readings g
+  pub other : f ≡ g → ⊥
 
-is_other : (f g : Fact) (readings : List Fact) → IsIn (without_fact f readings) g → IsOther f g readings
+pub is_other : (f g : Fact) (readings : List Fact) → IsIn (without_fact f readings) g → IsOther f g readings
 is_other f g readings h =
     let r : IsIn readings g × IsTrue (not (is_fact f g)) = IsIn-filter (λ g. not (is_fact f g)) readings g h in
     let no : is_fact f g ≡ false = not-true (is_fact f g) r.1 in

@@ -5,7 +5,7 @@ use Rattle.circuit_model.specs.declared.model.Fact.{Fact}
 use Rattle.circuit_model.specs.declared.model.Assumption.TheVariants.{Part, Reading}
 use Rattle.circuit_model.specs.Stock.{Stock}
 use Rattle.circuit_model.specs.Diagnoses.{Place, AtPart, AtCell}
-use Rattle.circuit_model.specs.Present.{PresentView, is_cell}
+use Rattle.circuit_model.specs.Present.{PresentView, is_fact}
 use Rattle.circuit_model.specs.Renaming.{along}
 use Rattle.circuit_model.specs.Whole.{places_in_order}
 use Rattle.environment_sets.specs.declared.environment.TheConstants.{SLOTS}
@@ -39,10 +39,6 @@ pub record StandsFor (S : Stock ℕ) (st : Stands) (P : PresentView) (parked : L
   pub each_parked : (f : Fact) → IsIn parked f → IsParked S st f
   pub once : (k l : ℕ) (f : Fact) → S k ≡ Some (Reading f) → S l ≡ Some (Reading f) → k ≡ l
   pub all : (k : ℕ) → IsSome (S k) → IsIn (order_of st) k ⊎ IsReadingOf S parked k
-
--- one cell with one word
-abbrev pub is_fact : Fact → Fact → Bool
-is_fact f g = is_cell f.cell g.cell && (f.value == g.value)
 
 -- the readings without this one
 abbrev pub without_fact : Fact → List Fact → List Fact

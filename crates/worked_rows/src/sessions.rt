@@ -55,7 +55,7 @@ const AFTER_POLYBOX: [(&[u8], &[u8]); 6] = [
 ];
 
 // Whole sessions.
-const SESSIONS: [(&[u8], &[u8]); 6] = [
+const SESSIONS: [(&[u8], &[u8]); 8] = [
     // a conflict that was hidden
     (
         b"net P 4\nnet Q 4\nnet R 4\nbuf U1 P Q\nbuf U2 Q R\nmeasure P 1\nmeasure R 2\nmeasure Q 2\nconflicts\n\
@@ -76,6 +76,16 @@ const SESSIONS: [(&[u8], &[u8]); 6] = [
     (
         b"net A 4\nnet B 4\nnet Z 8\nmul M A B Z\nmeasure A 0\nlabel Z\nlabel B\nmeasure Z 5\nconflicts\nretract Z\nmeasure Z 0\nlabel Z\nlabel B\n",
         b"ok\nok\nok\nok\nok\nZ=0 {M;A}\nok\nok\nok\n{M}\nok\nok\nok\nZ=0 {;Z}\nZ=0 {M;A}\nok\nok\n",
+    ),
+    // a sum without its carry, forwards and backwards
+    (
+        b"net A 8\nnet B 8\nnet Z 8\nadd S A B Z\nmeasure A 255\nmeasure B 1\nlabel Z\nretract A\nmeasure Z 0\nlabel A\n",
+        b"ok\nok\nok\nok\nok\nok\nZ=0 {S;A,B}\nok\nok\nok\nA=255 {S;B,Z}\nok\n",
+    ),
+    // no word at the other input gives this conjunction
+    (
+        b"net A 4\nnet B 4\nnet Z 4\nand G A B Z\nmeasure A 6\nmeasure Z 1\nconflicts\n",
+        b"ok\nok\nok\nok\nok\nok\n{G}\nok\n",
     ),
     // one net twice, and no measurement
     (
