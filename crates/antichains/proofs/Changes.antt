@@ -1,21 +1,19 @@
 -- Changes of antichains.
-use Rattle.std.proofs.Common.{◌≡◌, ℕ, ◌-◌, ◌<◌, ◌≤◌, inl, inr, Bool, true, false, not, nat_lt, IsTrue, ◌↔◌, refl, sym, ap, subst, ◌∙◌, List, [], ◌∷◌, ◌++◌, length, get_or, Option, Some, None, MatchOption, is_some, arith}
+use Rattle.std.proofs.Common.{◌≡◌, ℕ, ◌<◌, ◌≤◌, inl, inr, Bool, not, IsTrue, ◌↔◌, refl, sym, ap, subst, ◌∙◌, List, [], ◌∷◌, ◌++◌, length, get_or, Option, Some, None, MatchOption, is_some, arith}
 use Rattle.std.proofs.lemmas.Bool.{false≢true, both_ways, not-true, not_from_false, false_from_ne_true}
 use Rattle.std.proofs.lemmas.List.{length-map}
-use Rattle.std.proofs.lemmas.Bool.Decides.{nat_tests}
-use Rattle.std.proofs.lemmas.Option.{slice_get_within, slice_get-get_or}
-use Rattle.std.specs.List.{filter, slice_get}
+use Rattle.std.specs.List.{filter}
 use Rattle.environment_sets.specs.declared.environment.Env.{Env}
 use Rattle.environment_sets.specs.declared.environment.TheConstants.{SLOTS}
 use Rattle.environment_sets.specs.Sets.{Set, ◌⊆◌, IsBelow, size_below, is_within}
-use Rattle.environment_sets.specs.Families.{IsCovered, IsAntichain, Adds, Drops, AreInside}
+use Rattle.environment_sets.specs.Families.{IsCovered, Adds, Drops, AreInside}
 use Rattle.environment_sets.specs.Members.{members, sets, HasMember}
 use Rattle.environment_sets.specs.Lists.{IsIn, AreDistinct, IsRoster}
 use Rattle.environment_sets.proofs.Families.{Adds-antichain, Drops-antichain}
 use Rattle.environment_sets.proofs.Listings.{sets-push, IsIn-push, IsIn-front, IsIn-last, IsIn-filter, IsIn-get_or, IsIn-kept, IsRising-filter, map-filter}
-use Rattle.environment_sets.proofs.Membership.{AreDistinct-push, IsIn-map, map-IsIn, slice_get-IsIn}
+use Rattle.environment_sets.proofs.Membership.{AreDistinct-push, IsIn-map, map-IsIn}
 use Rattle.environment_sets.proofs.Slots.{slots_are_below}
-use Rattle.antichains.specs.Largest.{AreAtMost}
+use Rattle.antichains.specs.Largest.{AreAtMost, ListsAntichain}
 use Rattle.antichains.proofs.Larger.{as_large, filter_keeps}
 use Rattle.environment_sets.proofs.Within.{within_holds, holds_within}
 
@@ -56,10 +54,6 @@ drops_over-left e old new left = drops-left (leaves_out e) (λ F. members e ⊆ 
 pub drops_slot-left : (slot : ℕ) (old new : List Env) → IsLeft (lacks slot) old new → Drops (IsIn (sets old)) (IsIn (sets new)) (λ F. IsTrue (F slot))
 drops_slot-left slot old new left = drops-left (lacks slot) (λ F. IsTrue (F slot)) (λ F h k. both_ways (F slot) (not-true (F slot) h) k) (λ F h. not_from_false (F slot) (false_from_ne_true (F slot) h)) old new left
 
--- what the list of an antichain keeps: no set stands twice, none contains another, and none has more slots than the number
-abbrev pub ListsAntichain : ℕ → List Env → Type 0
-ListsAntichain n es = AreDistinct (sets es) × IsAntichain (HasMember es) × AreAtMost n (HasMember es)
-
 pub antichain-left : (test : Set ℕ → Bool) (P : Set ℕ → Type 0) (n : ℕ) (old new : List Env) → IsLeft test old new → Drops (HasMember old) (HasMember new) P → ListsAntichain n old → ListsAntichain n new
 antichain-left test P n old new left drops (distinct, antichain, at_most) = (
   subst AreDistinct (sym (sets-left test old new left)) (IsRising-filter test (λ x y. x ≡ y → ⊥) (sets old) distinct),
@@ -94,38 +88,9 @@ antichain-added e old left new n m is pushed uncovered more size (distinct, anti
       ],
     )
 
--- the place of an environment of the list that is a subset of this one
-module _ (env : Env) where
-  -- from the place on, none is a subset
-  abbrev pub NoneFrom : List Env → ℕ → Type 0
-  NoneFrom es i = (k : ℕ) (e : Env) → i ≤ k → slice_get es k ≡ Some e → members e ⊆ members env → ⊥
-
-  pub none_from_end : (es : List Env) → NoneFrom es (length es)
-  none_from_end es k e past at within = let low : k < length es = slice_get_within es k e at in absurd (omega arith)
-
-  pub none_from_one_more : (es : List Env) (i : ℕ) (m : Env) → 0 < i → i ≤ length es → m ≡ get_or es (i - 1) m → NoneFrom es i → (members m ⊆ members env → ⊥) → NoneFrom es (i - 1)
-  none_from_one_more es i m some low is none out k e past at within =
-      elim (nat_lt k i) as (λ b. nat_lt k i ≡ b → ⊥) [
-        | true ↦ λ below.
-            let same : k ≡ i - 1 = grind (arith, nat_tests) in
-            let there : slice_get es (i - 1) ≡ Some m = slice_get-get_or es (i - 1) m (omega arith) ∙ ap (λ x. Some x) (sym is) in
-            let here : slice_get es (i - 1) ≡ Some e = (let P : ℕ → Type 0 = λ n. slice_get es n ≡ Some e in subst P same at) in
-            let both : Some e ≡ Some m = sym here ∙ there in
-            let em : e ≡ m = cc in
-            let P : Env → Type 0 = λ x. members x ⊆ members env in
-            out (subst P em within)
-        | false ↦ λ above. none k e (grind (arith, nat_tests)) at within
-      ] refl
-
-  pub not_covered_from : (es : List Env) (i : ℕ) → i ≤ 0 → NoneFrom es i → IsCovered (IsIn (sets es)) (members env) → ⊥
-  not_covered_from es i first none (E, member, within) =
-      let e : (e : Env) × IsIn es e × (members e ≡ E) = IsIn-map members es E member in
-      let at : (k : ℕ) × (slice_get es k ≡ Some e.0) = slice_get-IsIn es e.0 e.1 in
-      let P : Set ℕ → Type 0 = λ F. F ⊆ members env in
-      none at.0 e.0 (omega arith) at.1 (subst P (sym e.2) within)
-
-  pub covered_at : (es : List Env) (i : ℕ) (m : Env) → i < length es → m ≡ get_or es i m → members m ⊆ members env → IsCovered (IsIn (sets es)) (members env)
-  covered_at es i m low is within = let P : Env → Type 0 = λ x. IsIn es x in (members m, map-IsIn members es m (subst P (sym is) (IsIn-get_or es i m low)), within)
+-- the one at the place is a subset
+pub covered_at : (env : Env) (es : List Env) (i : ℕ) (m : Env) → i < length es → m ≡ get_or es i m → members m ⊆ members env → IsCovered (IsIn (sets es)) (members env)
+covered_at env es i m low is within = let P : Env → Type 0 = λ x. IsIn es x in (members m, map-IsIn members es m (subst P (sym is) (IsIn-get_or es i m low)), within)
 
 -- there is a place exactly where the claim holds
 pub some_where_covered : (r : Option ℕ) (P : Type 0) → MatchOption r (P → ⊥) (λ _. P) → IsTrue (is_some r) ↔ P

@@ -1,3 +1,4 @@
 pub mod Larger
 pub mod Changes
 pub mod Nearer
+pub mod Signing

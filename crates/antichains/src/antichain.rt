@@ -8,8 +8,10 @@ ghost use Rattle.environment_sets.specs.Families.{IsCovered, IsAntichain, Adds, 
 ghost use Rattle.environment_sets.specs.Orders.{ListsAll, IsOrder};
 ghost use Rattle.environment_sets.specs.Walks.{ComesAfter, GivesNextEnv, envs_left};
 ghost use Rattle.antichains.specs.Largest.{AreAtMost};
+ghost use Rattle.antichains.specs.Signed.{IsSigned, HasRoom};
 ghost use Rattle.antichains.specs.Nearest.{IsBehind, IsNearer, IsPassed};
 
+use crate::signed_list::SignedList;
 use environment_sets::{Env, SLOTS};
 use std::alloc::{AllocError, Global};
 use std::marker::Model;
@@ -27,7 +29,7 @@ pub enum Inserted {
 /// labels and nogoods are kept (de Kleer 1986).
 #[derive(Drop)]
 pub struct Antichain {
-    list: Vec<Env>,
+    signed: SignedList,
     // No member has more slots. Nothing that has as many is contained in another member.
     largest: u16,
 }
@@ -35,16 +37,14 @@ pub struct Antichain {
 impl Model for Antichain {
     ghost use Rattle.std.specs.Prelude.{List};
     ghost use Rattle.environment_sets.specs.declared.environment.Env.{Env};
-    ghost use Rattle.environment_sets.specs.Families.{IsAntichain};
-    ghost use Rattle.environment_sets.specs.Lists.{AreDistinct};
-    ghost use Rattle.environment_sets.specs.Members.{sets, HasMember};
-    ghost use Rattle.antichains.specs.Largest.{AreAtMost};
+    ghost use Rattle.antichains.specs.Largest.{ListsAntichain};
+    ghost use Rattle.antichains.specs.Signed.{IsSigned};
 
     ghost Value = { List Env };
 
-    ghost view = { λ a. a.list.items };
+    ghost view = { λ a. a.signed.list.items };
 
-    ghost invariant = { λ a. AreDistinct (sets a.list.items) × IsAntichain (HasMember a.list.items) × AreAtMost a.largest (HasMember a.list.items) };
+    ghost invariant = { λ a. ListsAntichain a.largest a.signed.list.items × IsSigned a.signed };
 }
 
 impl Antichain {
@@ -53,7 +53,7 @@ impl Antichain {
         ensures { result ≡ [] }
     {
         Antichain {
-            list: Vec::new(alloc),
+            signed: SignedList::new(alloc),
             largest: 0,
         }
     }
@@ -79,7 +79,7 @@ impl Antichain {
         ensures covered { IsTrue result ↔ IsCovered (HasMember self.now) (members env.now) }
         ensures antichain { IsAntichain (HasMember self.now) }
     {
-        let _list = &self.list;
+        let _signed = &self.signed;
         self.covers(env)
     }
 
@@ -91,20 +91,19 @@ impl Antichain {
         ensures err { OnErr result (self.new ≡ self.old) }
         ensures antichain { IsAntichain (HasMember self.new) }
     {
-        self.list.reserve(1)?;
-        drop_supersets(&mut self.list, &env, self.largest);
+        self.signed.make_room()?;
+        drop_supersets(&mut self.signed, &env, self.largest);
         self.largest = self.largest.max(env.size());
-        match self.list.push(env) {
-            Ok(()) => Ok(()),
-            Err(_) => unreachable!(),
-        }
+        self.signed.push(env);
+        Ok(())
     }
 
     /// How many members are inside the mask.
     pub fn count_inside(&self, mask: &Env) -> usize
         ensures { AreInside (HasMember self.now) (members mask.now) result }
     {
-        self.list
+        self.signed
+            .list
             .iter()
             .filter(|member| member.is_subset(mask))
             .count()
@@ -114,7 +113,8 @@ impl Antichain {
     pub fn inside(&self, alloc: Global, mask: &Env) -> Result<Vec<Env>, AllocError>
         ensures { IfOk result (λ found. IsRoster (λ E. HasMember self.now E × (E ⊆ members mask.now)) (sets found.items)) }
     {
-        self.list
+        self.signed
+            .list
             .iter()
             .copied()
             .filter(|member| member.is_subset(mask))
@@ -125,14 +125,14 @@ impl Antichain {
     pub fn members(&self) -> &[Env]
         ensures { result.now ≡ self.now }
     {
-        &self.list
+        &self.signed.list
     }
 
     /// Whether a member is a subset of the environment.
     pub fn covers(&self, env: &Env) -> bool
         ensures { IsTrue result ↔ IsCovered (HasMember self.now) (members env.now) }
     {
-        place_of_subset(&self.list, env).is_some()
+        self.signed.place_of_subset(env).is_some()
     }
 
     /// Whether there is a member at the place, and it is a subset of the environment. For where one place is likely, and the
@@ -140,7 +140,7 @@ impl Antichain {
     pub fn covers_at(&self, env: &Env, place: usize) -> bool
         ensures { IsTrue result → IsCovered (HasMember self.now) (members env.now) }
     {
-        is_subset_at(&self.list, place, env)
+        is_subset_at(&self.signed.list, place, env)
     }
 
     /// Whether a member is a subset of the environment. The member at the place is tried first, and where another one is
@@ -151,7 +151,7 @@ impl Antichain {
         if self.covers_at(env, *place) {
             return true;
         }
-        match place_of_subset(&self.list, env) {
+        match self.signed.place_of_subset(env) {
             Some(found) => {
                 *place = found;
                 true
@@ -166,7 +166,7 @@ impl Antichain {
         ensures dropped { Drops (HasMember self.old) (HasMember self.new) (λ F. IsTrue (F slot)) }
         ensures antichain { IsAntichain (HasMember self.new) }
     {
-        self.list.retain(|member| !member.has(slot));
+        self.signed.drop_slot(slot);
     }
 
     /// Drops the members that contain the environment. It takes no memory.
@@ -174,7 +174,7 @@ impl Antichain {
         ensures dropped { Drops (HasMember self.old) (HasMember self.new) (λ F. members env.now ⊆ F) }
         ensures antichain { IsAntichain (HasMember self.new) }
     {
-        self.list.retain(|member| !env.is_subset(member));
+        self.signed.drop_over(env);
     }
 
     /// The first member that is inside the mask and comes after `last`, or after nothing: the first of all. Calls
@@ -188,7 +188,7 @@ impl Antichain {
         ensures falls { IfSome result (λ e. envs_left order.now self.now mask.now (Some e) < envs_left order.now self.now mask.now (option_copied last.entry)) }
     {
         let mut next = None;
-        for member in &self.list {
+        for member in &self.signed.list {
             if is_nearer(order, mask, last, &next, member) {
                 next = Some(*member);
             }
@@ -198,28 +198,17 @@ impl Antichain {
 }
 
 // Drops the environments that contain this one. Where none has more slots than this one, there are none.
-fn drop_supersets(list: &mut Vec<Env>, env: &Env, largest: u16)
-    requires out { IsCovered (HasMember list.old.items) (members env.now) → ⊥ }
-    requires at_most { AreAtMost largest (HasMember list.old.items) }
-    requires room { vec_len list.old < vec_capacity list.old }
-    ensures left { list.new.items ≡ filter (λ e. not (is_within SLOTS (members env.now) (members e))) list.old.items }
-    ensures room { vec_len list.new < vec_capacity list.new }
+fn drop_supersets(signed: &mut SignedList, env: &Env, largest: u16)
+    requires out { IsCovered (HasMember signed.old.list.items) (members env.now) → ⊥ }
+    requires at_most { AreAtMost largest (HasMember signed.old.list.items) }
+    requires signed { IsSigned signed.old }
+    ensures left { signed.new.list.items ≡ filter (λ e. not (is_within SLOTS (members env.now) (members e))) signed.old.list.items }
+    ensures signed { IsSigned signed.new }
+    ensures room { HasRoom signed.old → HasRoom signed.new }
 {
     if env.size() < largest {
-        list.retain(|kept| !env.is_subset(kept));
+        signed.drop_over(env);
     }
-}
-
-// The place of one that is a subset of the environment. They are tried from the last, as what was put in lately covers most.
-fn place_of_subset(list: &[Env], env: &Env) -> Option<usize>
-    ensures { MatchOption result (IsCovered (HasMember list.now) (members env.now) → ⊥) (λ _. IsCovered (HasMember list.now) (members env.now)) }
-{
-    for place in (0..list.len()).rev() {
-        if list[place].is_subset(env) {
-            return Some(place);
-        }
-    }
-    None
 }
 
 // Whether there is a member at the place, and it is a subset of the environment.

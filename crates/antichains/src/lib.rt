@@ -2,5 +2,6 @@
 #![tactic(auto)]
 
 mod antichain;
+mod signed_list;
 
 pub use antichain::{Antichain, Inserted};

@@ -10,6 +10,7 @@ pub mod CostSums
 pub mod Hitting
 pub mod Walking
 pub mod Within
+pub mod Signed
 pub mod Left
 pub mod Membership
 pub mod Sorting

@@ -16,23 +16,23 @@ use Rattle.environment_sets.proofs.Sizes.{size_below-agree}
 
 -- ---- one word
 
-has_bit-zero : (k : ℕ) → has_bit 0 k ≡ false
+pub has_bit-zero : (k : ℕ) → has_bit 0 k ≡ false
 has_bit-zero k = ap (λ d. d == 1) (bit_at-zero k)
 
-has_bit-and : (a b k : ℕ) → has_bit (bit_and a b) k ≡ (has_bit a k && has_bit b k)
+pub has_bit-and : (a b k : ℕ) → has_bit (bit_and a b) k ≡ (has_bit a k && has_bit b k)
 has_bit-and a b k = ap (λ d. d == 1) (bit_at_and a b k) ∙ both (bit_at a k) (bit_at b k) (bit_at-lt a k) (bit_at-lt b k)
   where
     both : (m n : ℕ) → m < 2 → n < 2 → (min m n == 1) ≡ ((m == 1) && (n == 1))
     both m n p q = grind (arith, nat_tests)
 
-has_bit-or : (a b k : ℕ) → has_bit (bit_or a b) k ≡ (has_bit a k || has_bit b k)
+pub has_bit-or : (a b k : ℕ) → has_bit (bit_or a b) k ≡ (has_bit a k || has_bit b k)
 has_bit-or a b k = ap (λ d. d == 1) (bit_at_or a b k) ∙ either (bit_at a k) (bit_at b k) (bit_at-lt a k) (bit_at-lt b k)
   where
     either : (m n : ℕ) → m < 2 → n < 2 → (max m n == 1) ≡ ((m == 1) || (n == 1))
     either m n p q = grind (arith, nat_tests)
 
 -- words with the same bits are equal
-same_word : (n a b : ℕ) → a < 2 ^ n → b < 2 ^ n → ((k : ℕ) → k < n → has_bit a k ≡ has_bit b k) → a ≡ b
+pub same_word : (n a b : ℕ) → a < 2 ^ n → b < 2 ^ n → ((k : ℕ) → k < n → has_bit a k ≡ has_bit b k) → a ≡ b
 same_word n a b p q same = same_from_bits_below n a b p q (λ k low. digit (bit_at a k) (bit_at b k) (bit_at-lt a k) (bit_at-lt b k) (same k low))
   where
     digit : (m n : ℕ) → m < 2 → n < 2 → (m == 1) ≡ (n == 1) → m ≡ n
@@ -62,7 +62,7 @@ size_of_word (suc n) w fits =
 -- ---- words side by side
 
 -- slot number k of word number i
-slots_in-at : (ws : List ℕ) (i k : ℕ) → k < WORD_BITS → slots_in ws (i * WORD_BITS + k) ≡ has_bit (get_or ws i 0) k
+pub slots_in-at : (ws : List ℕ) (i k : ℕ) → k < WORD_BITS → slots_in ws (i * WORD_BITS + k) ≡ has_bit (get_or ws i 0) k
 slots_in-at ws i k low = ap₂ (λ j d. has_bit (get_or ws j 0) d) (div-mul-add i WORD_BITS k low) (mod-mul-add i WORD_BITS k low)
 
 pub slots_in-past : (ws : List ℕ) (k : ℕ) → length ws ≤ k / WORD_BITS → slots_in ws k ≡ false

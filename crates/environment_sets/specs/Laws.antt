@@ -1,11 +1,12 @@
 -- Laws of sets, of their order and of lists of them.
-use Rattle.std.specs.Prelude.{◌≡◌, ◌↔◌, ◌⊎◌, ℕ, None, List}
+use Rattle.std.specs.Prelude.{◌≡◌, ◌↔◌, ◌⊎◌, ℕ, None, List, bit_and}
 use Rattle.std.specs.List.{count_by}
 use Rattle.std.specs.declared.cmp.Ordering.TheVariants.{Equal}
 use Rattle.environment_sets.specs.declared.environment.Env.{Env}
 use Rattle.environment_sets.specs.declared.environment.TheConstants.{SLOTS}
 use Rattle.environment_sets.specs.Sets.{Set, no_elements, ◌⊆◌, IsBelow, size_below, IsMinimalHittingSet}
 use Rattle.environment_sets.specs.Members.{members}
+use Rattle.environment_sets.specs.Signatures.{signature}
 use Rattle.environment_sets.specs.Lists.{IsIn, IsRising, IsStrict, AreDistinct, IsListing}
 use Rattle.environment_sets.specs.Orders.{ListsAll, compare_in, ComesBefore}
 use Rattle.environment_sets.specs.Walks.{IsWalk}
@@ -17,6 +18,10 @@ SlotsAreBelow = (e : Env) → IsBelow SLOTS (members e)
 -- environments with the same slots are equal
 abbrev pub SameSlotsAreEqual : Type 0
 SameSlotsAreEqual = (e f : Env) → members e ≡ members f → e ≡ f
+
+-- the signature of a subset has no bit that the signature of the other lacks
+abbrev pub SubsetsHaveLess : Type 0
+SubsetsHaveLess = (e f : Env) → members e ⊆ members f → bit_and (signature e) (signature f) ≡ signature e
 
 -- as many names of a list of distinct names, which lists all of the set, are in the set as the set has elements
 abbrev pub SizesAreCounts : Type 0

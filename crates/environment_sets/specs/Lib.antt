@@ -6,4 +6,5 @@ pub mod Orders
 pub mod Walks
 pub mod Costs
 pub mod Counts
+pub mod Signatures
 pub mod Laws

@@ -29,6 +29,7 @@ impl Env {
     ghost use Rattle.environment_sets.specs.Sets.{no_elements, only, size_below, is_within, ◌∪◌, ◌∩◌, ◌∖◌, ◌⊆◌};
     ghost use Rattle.environment_sets.specs.Members.{members};
     ghost use Rattle.environment_sets.specs.Orders.{compare_in, by_first, ListsAll, IsOrder};
+    ghost use Rattle.environment_sets.specs.Signatures.{signature, IsSignature};
 
     /// The environment with no slot.
     pub fn empty() -> Env
@@ -111,6 +112,19 @@ impl Env {
             size += self.words[i].count_ones() as u16;
         }
         size
+    }
+
+    /// The union of the environment's words. What a subset has, the environment has: so where the signature of one is no part
+    /// of another's, it is no subset, and its words need not be read.
+    pub fn signature(&self) -> u64
+        ensures word { result ≡ signature self.now }
+        ensures bits { IsSignature result (members self.now) }
+    {
+        let mut signature = 0;
+        for i in 0..WORDS {
+            signature |= self.words[i];
+        }
+        signature
     }
 
     /// The place of this environment before or after the other: the smaller one comes first. Of two of one size,

@@ -1,6 +1,6 @@
 // Laws of sets, of their order and of lists of them.
 
-ghost use Rattle.environment_sets.specs.Laws.{SlotsAreBelow, SameSlotsAreEqual, SizesAreCounts, NoneIsHitByNone, OrderIsStrict, OrderIsTransitive, EqualSetsAreSame, OrderIsTotal, ListingsAreUnique, WalksListAll};
+ghost use Rattle.environment_sets.specs.Laws.{SlotsAreBelow, SameSlotsAreEqual, SubsetsHaveLess, SizesAreCounts, NoneIsHitByNone, OrderIsStrict, OrderIsTransitive, EqualSetsAreSame, OrderIsTotal, ListingsAreUnique, WalksListAll};
 
 /// Each slot of an environment is below [`SLOTS`](crate::SLOTS).
 pub fn slots_are_below_the_bound()
@@ -10,6 +10,11 @@ pub fn slots_are_below_the_bound()
 /// Environments with the same slots are equal, also by `==`.
 pub fn same_slots_are_equal()
     ensures { SameSlotsAreEqual }
+{}
+
+/// The signature of a subset has no bit that the signature of the other lacks.
+pub fn subsets_have_less()
+    ensures { SubsetsHaveLess }
 {}
 
 /// The size of a set is the count of its elements in any list of distinct numbers that has them all.

@@ -13,8 +13,8 @@ use Rattle.antichains.proofs.antichain.Antichain.count_inside.Goals as goal
 pub returns : goal.returns
 returns c =
     let mask = members c.args.mask.now in
-    let list = c.self.inside.list.items in
+    let list = c.self.inside.signed.list.items in
     let P : List Env → Type 0 = λ es. AreInside (HasMember es) mask c.count.result in
     subst P c.self.view_is (inside-left list (filter (λ (e : Env). is_within SLOTS (members e) mask) list) mask c.count.result refl
     (count_from_yields_List c.filter.result _ c.count.ensures.ran (YieldsList-from_filter _ (λ (e : Env). is_within SLOTS (members e) mask) (YieldsList-from_slice list (cc)) c.filter.ensures.closure (λ x b q k. search (rules, tests))))
-    c.self.invariant.0)
+    c.self.invariant.0.0)

@@ -1,5 +1,4 @@
-use Rattle.std.proofs.Common.{rules, List, subst}
-use Rattle.std.proofs.lemmas.Fn.{filter_same}
+use Rattle.std.proofs.Common.{List, subst}
 use Rattle.environment_sets.specs.declared.environment.Env.{Env}
 use Rattle.environment_sets.specs.Sets.{◌⊆◌}
 use Rattle.environment_sets.specs.Members.{members, HasMember}
@@ -7,20 +6,20 @@ use Rattle.environment_sets.specs.Families.{Drops}
 use Rattle.antichains.proofs.Changes.{leaves_out, IsLeft, antichain-left, drops_over-left}
 use Rattle.antichains.proofs.antichain.Antichain.drop_over.Goals as goal
 
-left : (c : goal.After-retain) → IsLeft (leaves_out c.args.env.now) c.self.inside.list.items c.retain.new.self.items
-left c = record { filtered = filter_same _ (λ (e : Env). leaves_out c.args.env.now (members e)) _ (λ x b q k. search rules) _ _ c.retain.ensures.filtered }
-
 pub invariant_of-self : goal.invariant_of-self
 invariant_of-self c =
-    let old = c.self.inside.list.items in
-    let new = c.retain.new.self.items in
-    antichain-left (leaves_out c.args.env.now) (λ F. members c.args.env.now ⊆ F) c.self.inside.largest old new (left c) (drops_over-left c.args.env.now old new (left c)) c.self.invariant
+    let env = c.args.env.now in
+    let old = c.self.inside.signed.list.items in
+    let new = c.drop_over.new.self.list.items in
+    let left : IsLeft (leaves_out env) old new = record { filtered = c.drop_over.ensures.left } in
+    (antichain-left (leaves_out env) (λ F. members env ⊆ F) c.self.inside.largest old new left (drops_over-left env old new left) c.self.invariant.0, c.drop_over.ensures.signed)
 
-pub returns : goal.returns
-returns c =
-    let new = c.retain.new.self.items in
-    let P : List Env → Type 0 = λ old. Drops (HasMember old) (HasMember new) (λ F. members c.args.env.now ⊆ F) in
-    record {
-      dropped = subst P c.self.view_is (drops_over-left c.args.env.now c.self.inside.list.items new (left c));
-      antichain = (invariant_of-self c).1;
-    }
+pub returns-clause-dropped : goal.returns-clause-dropped
+returns-clause-dropped c =
+    let env = c.args.env.now in
+    let new = c.drop_over.new.self.list.items in
+    let P : List Env → Type 0 = λ old. Drops (HasMember old) (HasMember new) (λ F. members env ⊆ F) in
+    subst P c.self.view_is (drops_over-left env c.self.inside.signed.list.items new (record { filtered = c.drop_over.ensures.left }))
+
+pub returns-clause-antichain : goal.returns-clause-antichain
+returns-clause-antichain c = (invariant_of-self c).0.1

@@ -5,4 +5,4 @@ use Rattle.environment_sets.specs.Families.{IsAntichain}
 use Rattle.antichains.proofs.antichain.Antichain.is_covered.Goals as goal
 
 pub returns-clause-antichain : goal.returns-clause-antichain
-returns-clause-antichain c = let P : List Env → Type 0 = λ es. IsAntichain (HasMember es) in subst P c.self.view_is c.self.invariant.1
+returns-clause-antichain c = let P : List Env → Type 0 = λ es. IsAntichain (HasMember es) in subst P c.self.view_is c.self.invariant.0.1

@@ -1,0 +1,128 @@
+-- Lists of environments with their signatures.
+use Rattle.std.proofs.Common.{◌≡◌, ◌≢◌, ℕ, suc, ◌+◌, ◌-◌, ◌<◌, ◌≤◌, inl, inr, Bool, true, false, ◌==◌, IsTrue, cond, refl, sym, ap, subst, ◌∙◌, List, [], ◌∷◌, length, get_or, set, map, Some, bit_and, arith, get_or-set_same, get_or-set_other, length-set, below_more}
+use Rattle.std.specs.List.{filter, slice_get}
+use Rattle.std.proofs.lemmas.Bool.{cases_lt}
+use Rattle.std.proofs.lemmas.Bool.Decides.{nat_tests}
+use Rattle.std.proofs.lemmas.List.{length-map, get_or_default, same_lists, get_or-map}
+use Rattle.std.proofs.lemmas.Option.{slice_get_within, get_or_from_slice_get}
+use Rattle.environment_sets.specs.declared.environment.Env.{Env}
+use Rattle.environment_sets.specs.Sets.{Set, ◌⊆◌}
+use Rattle.environment_sets.specs.Members.{members, HasMember}
+use Rattle.environment_sets.specs.Families.{IsCovered}
+use Rattle.environment_sets.specs.Lists.{IsIn}
+use Rattle.environment_sets.specs.Signatures.{signature}
+use Rattle.environment_sets.proofs.Membership.{IsIn-map, map-IsIn, slice_get-IsIn, IsIn-slice_get}
+use Rattle.environment_sets.proofs.Signed.{subsets_have_less}
+use Rattle.antichains.specs.Signed.{IsInsideAMember}
+
+-- ---- signatures that are written one by one
+
+-- below i, each word is the signature of the environment at its place
+pub record AreWritten (es : List Env) (ws : List ℕ) (i : ℕ) : Type 0 where
+  pub long : length ws ≡ length es
+  pub below : (k : ℕ) → k < i → get_or ws k 0 ≡ get_or (map signature es) k 0
+
+-- the signature of the environment at the place
+pub signature_at : (es : List Env) (i : ℕ) (m : Env) → i < length es → m ≡ get_or es i m → get_or (map signature es) i 0 ≡ signature m
+signature_at es i m low is = get_or-map signature es i m 0 low ∙ ap signature (sym is)
+
+pub none_written : (es : List Env) (ws : List ℕ) → length ws ≡ length es → AreWritten es ws 0
+none_written es ws long = record { long = long; below = λ k h. absurd (omega arith) }
+
+pub one_more_written : (es : List Env) (ws : List ℕ) (i w : ℕ) (m : Env) → AreWritten es ws i → i < length es → m ≡ get_or es i m → w ≡ signature m → AreWritten es (set ws i w) (i + 1)
+one_more_written es ws i w m so low is written = record {
+  long = length-set ws i w ∙ so.long;
+  below = below_more _ _ (λ k lower. let other : k ≢ i = omega arith in get_or-set_other ws i k w 0 other ∙ so.below k lower) (get_or-set_same ws i w 0 (omega (arith, so.long)) ∙ (written ∙ sym (signature_at es i m low is)));
+}
+
+pub all_written : (es : List Env) (ws : List ℕ) (i : ℕ) → length es ≤ i → AreWritten es ws i → ws ≡ map signature es
+all_written es ws i past so =
+    let long : length (map signature es) ≡ length es = length-map es signature in
+    same_lists ws (map signature es) (so.long ∙ sym long) (λ j d low. get_or_default ws j d 0 low ∙ (so.below j (omega (arith, low, so.long)) ∙ sym (get_or_default (map signature es) j d 0 (omega (arith, low, so.long, long)))))
+
+-- ---- a test that a signature spares
+
+-- the word at the place is the signature of the environment there
+pub own_signature : (es : List Env) (ws : List ℕ) (i d w : ℕ) (e : Env) → ws ≡ map signature es → w ≡ get_or ws i d → slice_get es i ≡ Some e → w ≡ signature e
+own_signature es ws i d w e signed is at =
+    let low : i < length es = slice_get_within es i e at in
+    is ∙ (ap (λ l. get_or l i d) signed ∙ (get_or-map signature es i e d low ∙ ap signature (get_or_from_slice_get es i e e at)))
+
+-- of a subset the signature is part of the other's, as the code tests it
+pub subset_needs : (e f : Env) (a b : ℕ) → a ≡ signature e → b ≡ signature f → members e ⊆ members f → bit_and a b ≡ a
+subset_needs e f a b own other within = rw (own, other) (subsets_have_less e f within)
+
+-- ---- environments of which none has a property, up to a place
+
+module _ (P : Env → Type 0) (es : List Env) where
+  abbrev pub NoneBefore : ℕ → Type 0
+  NoneBefore i = (k : ℕ) (e : Env) → k < i → slice_get es k ≡ Some e → P e → ⊥
+
+  abbrev pub NoneBehind : ℕ → Type 0
+  NoneBehind i = (k : ℕ) (e : Env) → i ≤ k → slice_get es k ≡ Some e → P e → ⊥
+
+  pub none_before_more : (i : ℕ) → NoneBefore i → ((e : Env) → slice_get es i ≡ Some e → P e → ⊥) → NoneBefore (i + 1)
+  none_before_more i none here k e low at holds =
+      elim (cases_lt k i) [
+        | inl lower ↦ none k e lower at holds
+        | inr high ↦ let same : k ≡ i = omega (arith, low, high) in here e (subst (λ (n : ℕ). slice_get es n ≡ Some e) same at) holds
+      ]
+
+  pub none_behind_more : (i : ℕ) → 0 < i → NoneBehind i → ((e : Env) → slice_get es (i - 1) ≡ Some e → P e → ⊥) → NoneBehind (i - 1)
+  none_behind_more i some none here k e past at holds =
+      elim (cases_lt k i) [
+        | inl low ↦ let same : k ≡ i - 1 = omega (arith, low, past) in here e (subst (λ (n : ℕ). slice_get es n ≡ Some e) same at) holds
+        | inr high ↦ none k e high at holds
+      ]
+
+  pub none_behind_all : (n : ℕ) → length es ≤ n → NoneBehind n
+  none_behind_all n all k e past at holds = let low : k < length es = slice_get_within es k e at in absurd (omega arith)
+
+  pub none_at_all : (i : ℕ) → i ≤ 0 → NoneBehind i → (e : Env) → IsIn es e → P e → ⊥
+  none_at_all i first none e there holds = let at : (k : ℕ) × (slice_get es k ≡ Some e) = slice_get-IsIn es e there in none at.0 e (omega arith) at.1 holds
+
+  pub none_before_all : (n : ℕ) → length es ≤ n → NoneBefore n → (e : Env) → IsIn es e → P e → ⊥
+  none_before_all n all none e there holds =
+      let at : (k : ℕ) × (slice_get es k ≡ Some e) = slice_get-IsIn es e there in
+      let low : at.0 < length es = slice_get_within es at.0 e at.1 in
+      none at.0 e (omega arith) at.1 holds
+
+-- ---- subsets and supersets among them
+
+module _ (env : Env) (es : List Env) where
+  pub not_covered : ((e : Env) → IsIn es e → members e ⊆ members env → ⊥) → IsCovered (HasMember es) (members env) → ⊥
+  not_covered none (E, member, within) = let e : (e : Env) × IsIn es e × (members e ≡ E) = IsIn-map members es E member in none e.0 e.1 (subst (λ (F : Set ℕ). F ⊆ members env) (sym e.2) within)
+
+  pub covered_by : (i : ℕ) (e : Env) → slice_get es i ≡ Some e → members e ⊆ members env → IsCovered (HasMember es) (members env)
+  covered_by i e at within = (members e, map-IsIn members es e (IsIn-slice_get es i e at), within)
+
+  pub not_inside : ((e : Env) → IsIn es e → members env ⊆ members e → ⊥) → IsInsideAMember es (members env) → ⊥
+  not_inside none (E, member, within) = let e : (e : Env) × IsIn es e × (members e ≡ E) = IsIn-map members es E member in none e.0 e.1 (subst (λ (F : Set ℕ). members env ⊆ F) (sym e.2) within)
+
+  pub inside_in : (e : Env) → IsIn es e → members env ⊆ members e → IsInsideAMember es (members env)
+  inside_in e there within = (members e, map-IsIn members es e there, within)
+
+  pub inside_of : (i : ℕ) (e : Env) → slice_get es i ≡ Some e → members env ⊆ members e → IsInsideAMember es (members env)
+  inside_of i e at within = (members e, map-IsIn members es e (IsIn-slice_get es i e at), within)
+
+-- ---- what is left by a test
+
+length-filter : {X : Type 0} (test : X → Bool) (xs : List X) → length (filter test xs) ≤ length xs
+length-filter test [] = omega arith
+length-filter test (x ∷ xs) =
+    let rest : length (filter test xs) ≤ length xs = length-filter test xs in
+    elim (test x) as (λ b. length (cond b (x ∷ filter test xs) (filter test xs)) ≤ suc (length xs)) [ true ↦ omega (arith, rest) | false ↦ omega (arith, rest) ]
+
+-- where as many are left, all are
+pub none_dropped : {X : Type 0} (test : X → Bool) (xs : List X) → length xs ≤ length (filter test xs) → filter test xs ≡ xs
+none_dropped test [] many = refl
+none_dropped test (x ∷ xs) many =
+    let rest : length (filter test xs) ≤ length xs = length-filter test xs in
+    elim (test x) as (λ b. suc (length xs) ≤ length (cond b (x ∷ filter test xs) (filter test xs)) → cond b (x ∷ filter test xs) (filter test xs) ≡ x ∷ xs) [
+      | true ↦ λ m. ap (λ l. x ∷ l) (none_dropped test xs (omega (arith, m)))
+      | false ↦ λ m. absurd (omega (arith, m, rest))
+    ] many
+
+-- a test of equal numbers that holds
+pub from_test : (a b : ℕ) → IsTrue (a == b) → a ≡ b
+from_test a b h = grind (arith, nat_tests)

@@ -1,0 +1,20 @@
+-- Lists of environments with their signatures.
+use Rattle.std.specs.Prelude.{◌≡◌, ◌<◌, ℕ, List, map, vec_len, vec_capacity}
+use Rattle.environment_sets.specs.declared.environment.Env.{Env}
+use Rattle.environment_sets.specs.Sets.{Set, ◌⊆◌}
+use Rattle.environment_sets.specs.Members.{HasMember}
+use Rattle.environment_sets.specs.Signatures.{signature}
+use Rattle.antichains.specs.declared.signed_list.SignedList.{SignedList}
+
+-- the signature of each environment stands at its place
+pub record IsSigned (s : SignedList) : Type 0 where
+  pub signatures : s.signatures.items ≡ map signature s.list.items
+
+-- there is room for one environment more
+pub record HasRoom (s : SignedList) : Type 0 where
+  pub list : vec_len s.list < vec_capacity s.list
+  pub signatures : vec_len s.signatures < vec_capacity s.signatures
+
+-- the set is a subset of one of the environments
+abbrev pub IsInsideAMember : List Env → Set ℕ → Type 0
+IsInsideAMember es E = (F : Set ℕ) × HasMember es F × (E ⊆ F)

@@ -1,0 +1,171 @@
+// Lists of environments, each with its signature, by which most are passed over unread.
+ghost use Rattle.std.specs.Prelude.{◌≡◌, ◌<◌, ◌≤◌, ◌↔◌, ◌++◌, ◌∷◌, [], IsTrue, IfOk, MatchOption, Some, filter, length, map, not, slice_get, vec_len, vec_capacity};
+ghost use Rattle.environment_sets.specs.declared.environment.Env.{Env};
+ghost use Rattle.environment_sets.specs.Sets.{◌⊆◌, is_within};
+ghost use Rattle.environment_sets.specs.Members.{members, HasMember};
+ghost use Rattle.environment_sets.specs.Families.{IsCovered};
+ghost use Rattle.environment_sets.specs.Signatures.{signature as signature_of};
+ghost use Rattle.antichains.specs.Signed.{IsSigned, HasRoom, IsInsideAMember};
+
+use environment_sets::{Env, SLOTS};
+use std::alloc::{AllocError, Global};
+
+/// A list of environments, with the signature of each at its place.
+#[derive(Drop)]
+pub struct SignedList {
+    pub list: Vec<Env>,
+    pub signatures: Vec<u64>,
+}
+
+impl SignedList {
+    /// No environments. It takes no memory.
+    pub fn new(alloc: Global) -> SignedList
+        ensures empty { result.list.items ≡ [] }
+        ensures signed { IsSigned result }
+    {
+        SignedList {
+            list: Vec::new(alloc),
+            signatures: Vec::new(alloc),
+        }
+    }
+
+    /// Takes the room for one environment more. After an error all is as before.
+    pub fn make_room(&mut self) -> Result<(), AllocError>
+        requires { IsSigned self.old }
+        ensures same { self.new.list.items ≡ self.old.list.items }
+        ensures signed { IsSigned self.new }
+        ensures room { IfOk result (λ _. HasRoom self.new) }
+    {
+        self.list.reserve(1)?;
+        self.signatures.reserve(1)
+    }
+
+    /// Puts the environment behind the others, where there is room for it.
+    pub fn push(&mut self, env: Env)
+        requires signed { IsSigned self.old }
+        requires room { HasRoom self.old }
+        ensures pushed { self.new.list.items ≡ self.old.list.items ++ env ∷ [] }
+        ensures signed { IsSigned self.new }
+    {
+        push_signature(&mut self.signatures, env.signature());
+        push_member(&mut self.list, env);
+    }
+
+    /// Drops the environments that contain this one. It takes no memory.
+    pub fn drop_over(&mut self, env: &Env)
+        requires { IsSigned self.old }
+        ensures left { self.new.list.items ≡ filter (λ e. not (is_within SLOTS (members env.now) (members e))) self.old.list.items }
+        ensures signed { IsSigned self.new }
+        ensures room { HasRoom self.old → HasRoom self.new }
+    {
+        if self.is_inside_a_member(env) {
+            self.list.retain(|kept| !env.is_subset(kept));
+            self.sign();
+        }
+    }
+
+    /// Drops the environments that have the slot, which is below [`SLOTS`]. It takes no memory.
+    pub fn drop_slot(&mut self, slot: u16)
+        requires slot { slot < SLOTS }
+        requires signed { IsSigned self.old }
+        ensures left { self.new.list.items ≡ filter (λ e. not (members e slot)) self.old.list.items }
+        ensures signed { IsSigned self.new }
+    {
+        let before = self.list.len();
+        self.list.retain(|member| !member.has(slot));
+        if self.list.len() < before {
+            self.sign();
+        }
+    }
+
+    /// The place of one that is a subset of the environment. They are tried from the last, as what was put in lately covers
+    /// most.
+    pub fn place_of_subset(&self, env: &Env) -> Option<usize>
+        requires { IsSigned self.now }
+        ensures { MatchOption result (IsCovered (HasMember self.now.list.items) (members env.now) → ⊥) (λ _. IsCovered (HasMember self.now.list.items) (members env.now)) }
+    {
+        let signature = env.signature();
+        for place in (0..self.list.len()).rev() {
+            if self.is_subset_at(place, env, signature) {
+                return Some(place);
+            }
+        }
+        None
+    }
+
+    // Whether one of them contains the environment.
+    fn is_inside_a_member(&self, env: &Env) -> bool
+        requires { IsSigned self.now }
+        ensures { IsTrue result ↔ IsInsideAMember self.now.list.items (members env.now) }
+    {
+        let signature = env.signature();
+        for place in 0..self.list.len() {
+            if self.is_superset_at(place, env, signature) {
+                return true;
+            }
+        }
+        false
+    }
+
+    // Whether the one at the place is a subset of the environment with this signature.
+    fn is_subset_at(&self, place: usize, env: &Env, signature: u64) -> bool
+        requires signed { IsSigned self.now }
+        requires inside { place < length self.now.list.items }
+        requires signature { signature ≡ signature_of env.now }
+        ensures { (e : Env) → slice_get self.now.list.items place ≡ Some e → IsTrue result ↔ (members e ⊆ members env.now) }
+    {
+        let own = self.signatures[place];
+        own & signature == own && self.list[place].is_subset(env)
+    }
+
+    // Whether the one at the place contains the environment with this signature.
+    fn is_superset_at(&self, place: usize, env: &Env, signature: u64) -> bool
+        requires signed { IsSigned self.now }
+        requires inside { place < length self.now.list.items }
+        requires signature { signature ≡ signature_of env.now }
+        ensures { (e : Env) → slice_get self.now.list.items place ≡ Some e → IsTrue result ↔ (members env.now ⊆ members e) }
+    {
+        signature & self.signatures[place] == signature && env.is_subset(&self.list[place])
+    }
+
+    // Writes the signatures anew, where some environments were dropped.
+    fn sign(&mut self)
+        requires { vec_len self.old.list ≤ vec_len self.old.signatures }
+        ensures same { self.new.list ≡ self.old.list }
+        ensures signed { IsSigned self.new }
+        ensures room { vec_len self.old.signatures < vec_capacity self.old.signatures → vec_len self.new.signatures < vec_capacity self.new.signatures }
+    {
+        self.signatures.truncate(self.list.len());
+        write_signatures(&self.list, &mut self.signatures);
+    }
+}
+
+// The signature of each environment is written at its place.
+fn write_signatures(list: &[Env], signatures: &mut [u64])
+    requires { length list.now ≡ length signatures.old }
+    ensures { signatures.new ≡ map signature_of list.now }
+{
+    for place in 0..list.len() {
+        signatures[place] = list[place].signature();
+    }
+}
+
+// Puts the environment behind the others.
+fn push_member(list: &mut Vec<Env>, env: Env)
+    requires { vec_len list.old < vec_capacity list.old }
+    ensures { list.new.items ≡ list.old.items ++ env ∷ [] }
+{
+    if list.push(env).is_err() {
+        unreachable!();
+    }
+}
+
+// Puts the signature behind the others.
+fn push_signature(signatures: &mut Vec<u64>, signature: u64)
+    requires { vec_len signatures.old < vec_capacity signatures.old }
+    ensures { signatures.new.items ≡ signatures.old.items ++ signature ∷ [] }
+{
+    if signatures.push(signature).is_err() {
+        unreachable!();
+    }
+}
