@@ -1,8 +1,8 @@
 // What is remembered, by slot.
 
-ghost use Rattle.std.specs.Prelude.{◌≡◌, ◌<◌, ℕ, None, Some, IfOk, IfSome, IsSome, MatchOption, slice_set, length};
+ghost use Rattle.std.specs.Prelude.{◌≡◌, ◌<◌, ◌≤◌, ℕ, None, Some, IfOk, IfSome, IsSome, MatchOption, slice_set, length};
 ghost use Rattle.environment_sets.specs.declared.environment.TheConstants.{SLOTS};
-ghost use Rattle.assumption_slots.specs.Slots.{stock};
+ghost use Rattle.assumption_slots.specs.Slots.{stock, AreFreeFrom};
 
 use circuit_model::Assumption;
 use environment_sets::SLOTS;
@@ -13,18 +13,20 @@ use std::marker::Model;
 #[derive(Drop)]
 pub struct Slots {
     list: Vec<Option<Assumption>>,
+    // no slot from here on is taken
+    end: usize,
 }
 
 impl Model for Slots {
-    ghost use Rattle.std.specs.Prelude.{◌≡◌, List, Option, length};
-    ghost use Rattle.environment_sets.specs.declared.environment.TheConstants.{SLOTS};
+    ghost use Rattle.std.specs.Prelude.{List, Option};
     ghost use Rattle.circuit_model.specs.declared.model.Assumption.{Assumption};
+    ghost use Rattle.assumption_slots.specs.Slots.{AreSlots};
 
     ghost Value = { List (Option Assumption) };
 
     ghost view = { λ s. s.list.items };
 
-    ghost invariant = { λ s. length s.list.items ≡ SLOTS };
+    ghost invariant = { λ s. AreSlots s.list.items s.end };
 }
 
 // The first place with nothing.
@@ -39,6 +41,21 @@ fn first_none(list: &[Option<Assumption>]) -> Option<usize>
     None
 }
 
+// Past the last place before the end that has something.
+fn end_before(list: &[Option<Assumption>], end: usize) -> usize
+    requires within { end ≤ length list.now }
+    requires free { AreFreeFrom list.now end }
+    ensures within { result ≤ length list.now }
+    ensures free { AreFreeFrom list.now result }
+{
+    for place in (0..end).rev() {
+        if list[place].is_some() {
+            return place + 1;
+        }
+    }
+    0
+}
+
 impl Slots {
     /// All slots free. Their room is taken here; an error says that there is none.
     pub fn open(alloc: Global) -> Result<Slots, AllocError>
@@ -48,7 +65,7 @@ impl Slots {
         for _slot in 0..SLOTS {
             list.push(None)?;
         }
-        Ok(Slots { list })
+        Ok(Slots { list, end: 0 })
     }
 
     /// The number of slots, free or not.
@@ -57,6 +74,14 @@ impl Slots {
         ensures wide { result ≡ SLOTS }
     {
         self.list.len()
+    }
+
+    /// No slot from here on is taken: it is past the highest slot that is taken.
+    pub fn end(&self) -> usize
+        ensures free { AreFreeFrom self.now result }
+        ensures within { result ≤ SLOTS }
+    {
+        self.end
     }
 
     /// What is remembered at the slot.
@@ -82,6 +107,7 @@ impl Slots {
         ensures { self.new ≡ slice_set self.old slot (Some what) }
     {
         self.list[slot as usize] = Some(what);
+        self.end = self.end.max(slot as usize + 1);
     }
 
     /// The slot is free; what was there goes.
@@ -90,5 +116,6 @@ impl Slots {
         ensures { self.new ≡ slice_set self.old slot None }
     {
         self.list[slot as usize] = None;
+        self.end = end_before(&self.list, self.end);
     }
 }

@@ -1,5 +1,6 @@
 -- What is remembered at a slot.
-use Rattle.std.proofs.Common.{◌≡◌, ℕ, ◌<◌, List, length, Option, Some, slice_get, subst}
+use Rattle.std.proofs.Common.{◌≡◌, ℕ, ◌<◌, true, false, nat_lt, List, length, Option, Some, None, slice_get, refl, sym, subst, ◌∙◌, arith}
+use Rattle.std.proofs.lemmas.Bool.Decides.{nat_tests}
 use Rattle.std.proofs.lemmas.Option.{slice_get_within}
 use Rattle.circuit_model.specs.declared.model.Fact.{Fact}
 use Rattle.circuit_model.specs.declared.model.Instance.{Instance}
@@ -8,7 +9,7 @@ use Rattle.circuit_model.specs.declared.model.Assumption.TheVariants.{Part}
 use Rattle.environment_sets.specs.Lists.{IsIn}
 use Rattle.environment_sets.proofs.Membership.{IsIn-slice_get, slice_get-IsIn}
 use Rattle.inference_search.specs.declared.inferred.Inferred.{Inferred}
-use Rattle.assumption_slots.specs.Slots.{stock}
+use Rattle.assumption_slots.specs.Slots.{stock, AreFreeFrom}
 use Rattle.inference_search.specs.Choices.{IsMade, IsMadeOf, IsMadeAt, IsDonePart, IsDoneAt}
 
 -- what holds of the instance at each place holds of each instance
@@ -31,3 +32,12 @@ module _ (slots : List (Option Assumption)) (must : Option Fact) (slot : ℕ) (p
       let same : part ≡ other = cc in
       let P : List Instance → Type 0 = λ part. IsDonePart slot from must part found in
       subst P same done
+
+-- from the end of what is remembered on nothing is to be found
+pub done_past : (slots : List (Option Assumption)) (must : Option Fact) (from : List Fact) (found : List Inferred) (end : ℕ) → AreFreeFrom slots end → ((k : ℕ) → k < end → IsDoneAt slots from must k found)
+    → (k : ℕ) → IsDoneAt slots from must k found
+done_past slots must from found end free done k part at =
+    elim (nat_lt k end) as (λ b. nat_lt k end ≡ b → IsDonePart k from must part found) [
+      | true ↦ λ is. done k (grind (arith, nat_tests)) part at
+      | false ↦ λ is. let bad : None ≡ Some (Part part) = sym (free k (grind (arith, nat_tests))) ∙ at in absurd (cc)
+    ] refl

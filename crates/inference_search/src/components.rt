@@ -63,7 +63,7 @@ pub fn add_slots(
 ) -> Result<(), AllocError>
     ensures { IfOk result (λ _. Finds (IsMadeAtSome slots.now search.now.must) (λ found. (slot : ℕ) → slot < length slots.now → IsDoneAt slots.now search.now.facts.now search.now.must slot found) found.old.items found.new.items) }
 {
-    for slot in 0..slots.count() {
+    for slot in 0..slots.end() {
         add_slot(search, found, slots, slot as u16)?;
     }
     Ok(())
