@@ -4,6 +4,7 @@ pub mod Monotony
 pub mod Rounds
 pub mod Paddings
 pub mod Presents
+pub mod Tables
 pub mod Readings
 pub mod Cycles
 pub mod SmallerStock

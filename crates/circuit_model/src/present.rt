@@ -1,10 +1,12 @@
 // The circuit and its standing measurements.
 
-ghost use Rattle.std.specs.Prelude.{◌≡◌, ◌≤◌, ◌<◌, ◌+◌, ◌-◌, ◌*◌, length, slice_get, remove, Some, None, IfOk, OnOk, OnErr, IsSome, IsTrue, is_some, false};
+ghost use Rattle.std.specs.Prelude.{◌≡◌, ◌≤◌, ◌<◌, ◌+◌, ◌-◌, ◌*◌, ◌^◌, length, slice_get, remove, Some, None, IfOk, OnOk, OnErr, IfSome, IsSome, IsTrue, is_some, false};
 ghost use Rattle.std.specs.List.{insert, list_any, position};
 ghost use Rattle.std.specs.Str.{bytes_eq};
+ghost use Rattle.indexmap.specs.IndexMap.{keys, values, index_map_len};
 ghost use Rattle.circuit_model.specs.Names.{is_name};
 ghost use Rattle.circuit_model.specs.Present.{empty_present, named_in, reading_in, with_reading, with_cycles, with_net, without_last_net, with_part, without_last_part, without_part, with_cost, with_standing, without_reading, without_standing, with_mode, without_last_mode, block_named, block_at, with_block, without_last_block, with_pin, without_last_pin, with_inner, without_last_inner, IsLawful, IsLawfulComponent, IsLawfulMode, IsFactOf, IsUnusedNet, IsUnusedPart, IsUnusedBlock, IsUnusedPin, is_block_of, is_block_in_use};
+ghost use Rattle.circuit_model.specs.Tables.{nets_of, StandByName};
 ghost use Rattle.circuit_model.specs.Blocks.{pin_named, inner_named, IsLawfulInner};
 ghost use Rattle.circuit_model.specs.declared.limits.TheConstants.{MOST_CYCLES, MOST_NETS, MOST_CELLS, MOST_PARTS, MOST_READINGS, MOST_MODES, MOST_BLOCKS, MOST_PINS, MOST_INNERS, LEAST_COST, MOST_COST};
 ghost use Rattle.word_domain.specs.declared.width.TheConstants.{WIDEST};
@@ -14,6 +16,7 @@ use crate::limits;
 use crate::model::{Cell, Fact, Kind, Mode, Part};
 use crate::name::Name;
 use crate::pins::Pins;
+use indexmap::IndexMap;
 use std::alloc::{AllocError, Global};
 use std::marker::Model;
 use word_domain::Width;
@@ -64,8 +67,9 @@ pub enum Named {
 #[derive(Drop)]
 pub struct Present {
     cycles: u8,
-    nets: Vec<Net>,
-    parts: Vec<Component>,
+    nets: IndexMap<Name, Width>,
+    // each under its own name
+    parts: IndexMap<Name, Component>,
     // in order of cells, with room for all
     readings: Vec<Fact>,
     modes: Vec<DeclaredMode>,
@@ -92,8 +96,8 @@ impl Present {
     {
         Ok(Present {
             cycles: 1,
-            nets: Vec::new(alloc),
-            parts: Vec::new(alloc),
+            nets: IndexMap::new(alloc),
+            parts: IndexMap::new(alloc),
             readings: Vec::with_capacity(alloc, limits::MOST_READINGS as usize)?,
             modes: Vec::new(alloc),
             blocks: Vec::new(alloc),
@@ -106,8 +110,8 @@ impl Present {
     {
         let mut readings = Vec::with_capacity(alloc, limits::MOST_READINGS as usize)?;
         readings.extend_from_slice(&self.readings)?;
-        let nets = Vec::from_slice(alloc, &self.nets)?;
-        let parts = copy_parts(alloc, &self.parts)?;
+        let nets = self.nets.clone()?;
+        let parts = self.parts.clone()?;
         let modes = Vec::from_slice(alloc, &self.modes)?;
         let blocks = copy_blocks(alloc, &self.blocks)?;
         Ok(Present {
@@ -141,8 +145,7 @@ impl Present {
         requires { place < length self.now.nets }
         ensures { slice_get self.now.nets place ≡ Some (record { name = result.0; width = result.1 }) }
     {
-        let net = self.nets[place as usize];
-        (net.name, net.width)
+        net_of(&self.nets, place)
     }
 
     /// What has the name, if anything: nets and components share one set of names.
@@ -258,7 +261,7 @@ impl Present {
         requires { block < length self.now.blocks }
         ensures { result ≡ pin_named (block_at self.now block) name.now }
     {
-        net_named(self.blocks[block as usize].pins(), name)
+        pin_named(self.blocks[block as usize].pins(), name)
     }
 
     /// Whether an inner component of a definition has the name.
@@ -316,8 +319,9 @@ impl Present {
         ensures ok { OnOk result (self.new ≡ with_net (record { name = name; width = width }) self.old) }
         ensures err { OnErr result (self.new ≡ self.old) }
     {
-        let net = Net::new(name, width);
-        self.nets.push(net)?;
+        // For the proof alone: the bytes of a name are one, and a width is in its range.
+        let _net = Net::new(name, width);
+        self.nets.insert(name, width)?;
         Ok(())
     }
 
@@ -332,7 +336,7 @@ impl Present {
     {
         // For the proof alone: the bytes of a name are one.
         let _name = component.name.bytes();
-        self.parts.push(component)?;
+        self.parts.insert(component.name, component)?;
         Ok(())
     }
 
@@ -360,7 +364,7 @@ impl Present {
         requires unused { IsUnusedPart self.old part }
         ensures { self.new ≡ without_part part self.old }
     {
-        self.parts.remove(part as usize);
+        self.parts.shift_remove_index(part as usize);
     }
 
     /// Puts a measurement among the standing ones, in order of cells. It takes no memory: the room was taken when the
@@ -500,11 +504,11 @@ impl Present {
     }
 }
 
-impl Component {
-    fn copy(&self, alloc: Global) -> Result<Component, AllocError>
-        ensures { IfOk result (λ c. c ≡ self.now) }
-    {
-        let part = self.part.copy(alloc)?;
+impl Clone for Component {
+    ghost is_clone = { λ c d. d ≡ c };
+
+    fn clone(&self) -> Result<Component, AllocError> {
+        let part = self.part.clone()?;
         let nets = self.nets;
         Ok(Component {
             name: self.name,
@@ -531,17 +535,6 @@ impl Net {
     }
 }
 
-fn copy_parts(alloc: Global, parts: &[Component]) -> Result<Vec<Component>, AllocError>
-    ensures { IfOk result (λ v. v.items ≡ parts.now) }
-{
-    let mut copies = Vec::new(alloc);
-    for part in parts {
-        let copy = part.copy(alloc)?;
-        copies.push(copy)?;
-    }
-    Ok(copies)
-}
-
 fn copy_blocks(alloc: Global, blocks: &[Block]) -> Result<Vec<Block>, AllocError>
     ensures { IfOk result (λ v. v.items ≡ blocks.now) }
 {
@@ -553,8 +546,51 @@ fn copy_blocks(alloc: Global, blocks: &[Block]) -> Result<Vec<Block>, AllocError
     Ok(copies)
 }
 
+// The net at the place.
+fn net_of(nets: &IndexMap<Name, Width>, place: u16) -> (Name, Width)
+    requires { place < index_map_len nets.now }
+    ensures { slice_get (nets_of nets.now.entries) place ≡ Some (record { name = result.0; width = result.1 }) }
+{
+    match nets.get_index(place as usize) {
+        Some((name, width)) => (*name, *width),
+        None => unreachable!(),
+    }
+}
+
 // The place of the net with the name.
-fn net_named(nets: &[Net], name: &Name) -> Option<u16>
+fn net_named(nets: &IndexMap<Name, Width>, name: &Name) -> Option<u16>
+    requires { index_map_len nets.now ≤ MOST_NETS }
+    ensures { result ≡ position (λ n. bytes_eq n.name name.now) (nets_of nets.now.entries) }
+{
+    place_of_name(nets, name)
+}
+
+// The place of the component with the name.
+fn part_named(parts: &IndexMap<Name, Component>, name: &Name) -> Option<u16>
+    requires most { index_map_len parts.now ≤ MOST_PARTS }
+    requires names { StandByName (λ p. p.name) parts.now.entries }
+    ensures { result ≡ position (λ p. bytes_eq p.name name.now) (values parts.now) }
+{
+    place_of_name(parts, name)
+}
+
+// The place of the name.
+fn place_of_name<T>(table: &IndexMap<Name, T>, name: &Name) -> Option<u16>
+    requires { index_map_len table.now ≤ 2 ^ 16 }
+    ensures { result ≡ position (λ n. bytes_eq n name.now) (keys table.now) }
+{
+    name_position(table, name).map(|place| place as u16)
+}
+
+fn name_position<T>(table: &IndexMap<Name, T>, name: &Name) -> Option<usize>
+    ensures place { result ≡ position (λ n. bytes_eq n name.now) (keys table.now) }
+    ensures within { IfSome result (λ place. place < index_map_len table.now) }
+{
+    table.get_index_of(name)
+}
+
+// The place of the pin with the name.
+fn pin_named(nets: &[Net], name: &Name) -> Option<u16>
     requires { length nets.now ≤ MOST_NETS }
     ensures { result ≡ position (λ n. bytes_eq n.name name.now) nets.now }
 {
@@ -565,20 +601,6 @@ fn net_position(nets: &[Net], name: &Name) -> Option<usize>
     ensures { result ≡ position (λ n. bytes_eq n.name name.now) nets.now }
 {
     nets.iter().position(|net| is_same(&net.name, name))
-}
-
-// The place of the component with the name.
-fn part_named(parts: &[Component], name: &Name) -> Option<u16>
-    requires { length parts.now ≤ MOST_PARTS }
-    ensures { result ≡ position (λ p. bytes_eq p.name name.now) parts.now }
-{
-    part_position(parts, name).map(|place| place as u16)
-}
-
-fn part_position(parts: &[Component], name: &Name) -> Option<usize>
-    ensures { result ≡ position (λ p. bytes_eq p.name name.now) parts.now }
-{
-    parts.iter().position(|part| is_same(&part.name, name))
 }
 
 // The place of the definition with the name.
@@ -608,10 +630,10 @@ fn inner_position(inners: &[Inner], name: &Name) -> Option<usize>
 }
 
 // Whether a component is a block of the definition.
-fn has_block(parts: &[Component], block: u16) -> bool
-    ensures { result ≡ list_any (is_block_of block) parts.now }
+fn has_block(parts: &IndexMap<Name, Component>, block: u16) -> bool
+    ensures { result ≡ list_any (is_block_of block) (values parts.now) }
 {
-    parts.iter().any(|part| is_block_of(part, block))
+    parts.values().any(|part| is_block_of(part, block))
 }
 
 fn is_block_of(part: &Component, block: u16) -> bool

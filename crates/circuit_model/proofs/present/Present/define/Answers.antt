@@ -12,5 +12,6 @@ invariant_of-self-2 c =
     let lawful = subst (λ (t : PresentView). IsLawful t → IsLawful (with_block c.args.name t)) (sym c.self.view_is) (λ h. IsLawful-with_block c.args.self.now h c.args.name c.bytes-name.ensures.name c.requires.free c.requires.room) c.self.invariant.lawful in
     record {
       lawful = subst (λ (blocks : List BlockView). IsLawful (record s { blocks = blocks })) (sym items) lawful;
+      part_names = c.self.invariant.part_names;
       room = c.self.invariant.room;
     }

@@ -13,5 +13,6 @@ invariant_of-self c =
     let lawful = subst (λ (t : PresentView). IsLawful t → IsLawful (without_last_block t)) (sym c.self.view_is) (λ h. IsLawful-without_last_block c.args.self.now h c.requires.unused) c.self.invariant.lawful in
     record {
       lawful = subst (λ (blocks : List BlockView). IsLawful (record s { blocks = blocks })) (sym items) lawful;
+      part_names = c.self.invariant.part_names;
       room = c.self.invariant.room;
     }

@@ -14,6 +14,7 @@ invariant_of-self c =
     let lawful = subst (λ (t : PresentView). IsLawful t → IsLawful (without_last_inner c.args.block t)) (sym c.self.view_is) (λ h. IsLawful-change_block c.args.self.now h c.args.block (λ (b : BlockView). record b { inners = without_last b.inners }) c.requires.there c.requires.unused (λ b. refl) (λ l. lawful_without_last_inner (block_at c.args.self.now c.args.block) l)) c.self.invariant.lawful in
     record {
       lawful = subst (λ (blocks : List BlockView). IsLawful (record s { blocks = blocks })) (sym items) lawful;
+      part_names = c.self.invariant.part_names;
       room = c.self.invariant.room;
     }
 

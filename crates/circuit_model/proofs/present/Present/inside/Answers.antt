@@ -16,6 +16,7 @@ invariant_of-self-2 c =
     let lawful = subst (λ (t : PresentView). IsLawful t → IsLawful (with_inner c.args.block inner t)) (sym c.self.view_is) (λ h. IsLawful-change_block c.args.self.now h c.args.block (λ (b : BlockView). record b { inners = b.inners ++ inner ∷ [] }) c.requires.there c.requires.unused (λ b. refl) (λ l. lawful_with_inner (block_at c.args.self.now c.args.block) l inner c.requires.no_pin c.requires.no_inner c.requires.lawful c.requires.room c.bytes-name.ensures.name)) c.self.invariant.lawful in
     record {
       lawful = subst (λ (blocks : List BlockView). IsLawful (record s { blocks = blocks })) (sym items) lawful;
+      part_names = c.self.invariant.part_names;
       room = c.self.invariant.room;
     }
 

@@ -16,6 +16,7 @@ invariant_of-self-2 c =
     let lawful = subst (λ (t : PresentView). IsLawful t → IsLawful (with_pin c.args.block pin t)) (sym c.self.view_is) (λ h. IsLawful-change_block c.args.self.now h c.args.block (λ (b : BlockView). record b { pins = b.pins ++ pin ∷ [] }) c.requires.there c.requires.unused (λ b. refl) (λ l. lawful_with_pin (block_at c.args.self.now c.args.block) l pin c.requires.no_pin c.requires.no_inner c.requires.room c.new-pin.ensures.name c.new-pin.ensures.low c.new-pin.ensures.high)) c.self.invariant.lawful in
     record {
       lawful = subst (λ (blocks : List BlockView). IsLawful (record s { blocks = blocks })) (sym items) lawful;
+      part_names = c.self.invariant.part_names;
       room = c.self.invariant.room;
     }
 
