@@ -21,4 +21,5 @@ pub mod RowLemmas
 pub mod Changes
 pub mod Moves
 pub mod PresentChanges
+pub mod KeptBlocks
 pub mod Openings

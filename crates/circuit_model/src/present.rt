@@ -1,18 +1,19 @@
 // The circuit and its standing measurements.
 
-ghost use Rattle.std.specs.Prelude.{◌≡◌, ◌≤◌, ◌<◌, ◌+◌, ◌-◌, ◌*◌, ◌^◌, length, slice_get, remove, Some, None, IfOk, OnOk, OnErr, IfSome, IsSome, IsTrue, is_some, false};
+ghost use Rattle.std.specs.Prelude.{◌≡◌, ◌≤◌, ◌<◌, ◌+◌, ◌-◌, ◌*◌, length, slice_get, remove, Some, None, IfOk, OnOk, OnErr, IsSome, IsTrue, is_some, false};
 ghost use Rattle.std.specs.List.{insert, list_any, position};
 ghost use Rattle.std.specs.Str.{bytes_eq};
-ghost use Rattle.indexmap.specs.IndexMap.{keys, values, index_map_len};
+ghost use Rattle.indexmap.specs.IndexMap.{values, index_map_len};
 ghost use Rattle.circuit_model.specs.Names.{is_name};
 ghost use Rattle.circuit_model.specs.Present.{empty_present, named_in, reading_in, with_reading, with_cycles, with_net, without_last_net, with_part, without_last_part, without_part, with_cost, with_standing, without_reading, without_standing, with_mode, without_last_mode, block_named, block_at, with_block, without_last_block, with_pin, without_last_pin, with_inner, without_last_inner, IsLawful, IsLawfulComponent, IsLawfulMode, IsFactOf, IsUnusedNet, IsUnusedPart, IsUnusedBlock, IsUnusedPin, is_block_of, is_block_in_use};
-ghost use Rattle.circuit_model.specs.Tables.{nets_of, StandByName};
+ghost use Rattle.circuit_model.specs.Tables.{StandByName};
 ghost use Rattle.circuit_model.specs.Blocks.{pin_named, inner_named, IsLawfulInner};
 ghost use Rattle.circuit_model.specs.declared.limits.TheConstants.{MOST_CYCLES, MOST_NETS, MOST_CELLS, MOST_PARTS, MOST_READINGS, MOST_MODES, MOST_BLOCKS, MOST_PINS, MOST_INNERS, LEAST_COST, MOST_COST};
 ghost use Rattle.word_domain.specs.declared.width.TheConstants.{WIDEST};
 
 use crate::blocks::{Block, Inner};
 use crate::limits;
+use crate::look_up::{net_at, net_named, place_of_name};
 use crate::model::{Cell, Fact, Kind, Mode, Part};
 use crate::name::Name;
 use crate::pins::Pins;
@@ -73,7 +74,8 @@ pub struct Present {
     // in order of cells, with room for all
     readings: Vec<Fact>,
     modes: Vec<DeclaredMode>,
-    blocks: Vec<Block>,
+    // each under its own name
+    blocks: IndexMap<Name, Block>,
 }
 
 impl Model for Present {
@@ -100,7 +102,7 @@ impl Present {
             parts: IndexMap::new(alloc),
             readings: Vec::with_capacity(alloc, limits::MOST_READINGS as usize)?,
             modes: Vec::new(alloc),
-            blocks: Vec::new(alloc),
+            blocks: IndexMap::new(alloc),
         })
     }
 
@@ -113,7 +115,7 @@ impl Present {
         let nets = self.nets.clone()?;
         let parts = self.parts.clone()?;
         let modes = Vec::from_slice(alloc, &self.modes)?;
-        let blocks = copy_blocks(alloc, &self.blocks)?;
+        let blocks = self.blocks.clone()?;
         Ok(Present {
             cycles: self.cycles,
             nets,
@@ -145,7 +147,7 @@ impl Present {
         requires { place < length self.now.nets }
         ensures { slice_get self.now.nets place ≡ Some (record { name = result.0; width = result.1 }) }
     {
-        net_of(&self.nets, place)
+        net_at(&self.nets, place)
     }
 
     /// What has the name, if anything: nets and components share one set of names.
@@ -243,7 +245,7 @@ impl Present {
         ensures value { result ≡ length (block_at self.now block).pins }
         ensures most { result ≤ MOST_PINS }
     {
-        self.blocks[block as usize].pins().len() as u16
+        self.blocks[block as usize].pins() as u16
     }
 
     /// The name and the width of a pin of a definition, by its place in order of declaration, counted from 0.
@@ -252,8 +254,7 @@ impl Present {
         requires place { place < length (block_at self.now block).pins }
         ensures { slice_get (block_at self.now block).pins place ≡ Some (record { name = result.0; width = result.1 }) }
     {
-        let pin = self.blocks[block as usize].pins()[place as usize];
-        (pin.name, pin.width)
+        self.blocks[block as usize].pin_at(place)
     }
 
     /// The place of the pin of a definition with the name, if there is one.
@@ -261,7 +262,7 @@ impl Present {
         requires { block < length self.now.blocks }
         ensures { result ≡ pin_named (block_at self.now block) name.now }
     {
-        pin_named(self.blocks[block as usize].pins(), name)
+        self.blocks[block as usize].find_pin(name)
     }
 
     /// Whether an inner component of a definition has the name.
@@ -269,7 +270,7 @@ impl Present {
         requires { block < length self.now.blocks }
         ensures { result ≡ is_some (inner_named (block_at self.now block) name.now) }
     {
-        inner_position(self.blocks[block as usize].inners(), name).is_some()
+        self.blocks[block as usize].has_inner(name)
     }
 
     /// Whether a component is a block of a definition.
@@ -286,7 +287,7 @@ impl Present {
         ensures value { result ≡ length (block_at self.now block).inners }
         ensures most { result ≤ MOST_INNERS }
     {
-        self.blocks[block as usize].inners().len() as u16
+        self.blocks[block as usize].inners() as u16
     }
 
     /// The name, the kind and the pins by their places of an inner component of a definition, by its place in order of
@@ -296,7 +297,7 @@ impl Present {
         requires place { place < length (block_at self.now block).inners }
         ensures inner { slice_get (block_at self.now block).inners place ≡ Some (record { name = result.0; kind = result.1; pins = result.2 }) }
     {
-        let inner = self.blocks[block as usize].inners()[place as usize];
+        let inner = self.blocks[block as usize].inner_at(place);
         let pins = inner.pins;
         (inner.name, inner.kind, pins)
     }
@@ -430,7 +431,7 @@ impl Present {
         // For the proof alone: the bytes of a name are one.
         let _name = name.bytes();
         let block = Block::new(*self.blocks.allocator(), name);
-        self.blocks.push(block)?;
+        self.blocks.insert(name, block)?;
         Ok(())
     }
 
@@ -535,36 +536,6 @@ impl Net {
     }
 }
 
-fn copy_blocks(alloc: Global, blocks: &[Block]) -> Result<Vec<Block>, AllocError>
-    ensures { IfOk result (λ v. v.items ≡ blocks.now) }
-{
-    let mut copies = Vec::new(alloc);
-    for block in blocks {
-        let copy = block.copy(alloc)?;
-        copies.push(copy)?;
-    }
-    Ok(copies)
-}
-
-// The net at the place.
-fn net_of(nets: &IndexMap<Name, Width>, place: u16) -> (Name, Width)
-    requires { place < index_map_len nets.now }
-    ensures { slice_get (nets_of nets.now.entries) place ≡ Some (record { name = result.0; width = result.1 }) }
-{
-    match nets.get_index(place as usize) {
-        Some((name, width)) => (*name, *width),
-        None => unreachable!(),
-    }
-}
-
-// The place of the net with the name.
-fn net_named(nets: &IndexMap<Name, Width>, name: &Name) -> Option<u16>
-    requires { index_map_len nets.now ≤ MOST_NETS }
-    ensures { result ≡ position (λ n. bytes_eq n.name name.now) (nets_of nets.now.entries) }
-{
-    place_of_name(nets, name)
-}
-
 // The place of the component with the name.
 fn part_named(parts: &IndexMap<Name, Component>, name: &Name) -> Option<u16>
     requires most { index_map_len parts.now ≤ MOST_PARTS }
@@ -574,59 +545,13 @@ fn part_named(parts: &IndexMap<Name, Component>, name: &Name) -> Option<u16>
     place_of_name(parts, name)
 }
 
-// The place of the name.
-fn place_of_name<T>(table: &IndexMap<Name, T>, name: &Name) -> Option<u16>
-    requires { index_map_len table.now ≤ 2 ^ 16 }
-    ensures { result ≡ position (λ n. bytes_eq n name.now) (keys table.now) }
-{
-    name_position(table, name).map(|place| place as u16)
-}
-
-fn name_position<T>(table: &IndexMap<Name, T>, name: &Name) -> Option<usize>
-    ensures place { result ≡ position (λ n. bytes_eq n name.now) (keys table.now) }
-    ensures within { IfSome result (λ place. place < index_map_len table.now) }
-{
-    table.get_index_of(name)
-}
-
-// The place of the pin with the name.
-fn pin_named(nets: &[Net], name: &Name) -> Option<u16>
-    requires { length nets.now ≤ MOST_NETS }
-    ensures { result ≡ position (λ n. bytes_eq n.name name.now) nets.now }
-{
-    net_position(nets, name).map(|place| place as u16)
-}
-
-fn net_position(nets: &[Net], name: &Name) -> Option<usize>
-    ensures { result ≡ position (λ n. bytes_eq n.name name.now) nets.now }
-{
-    nets.iter().position(|net| is_same(&net.name, name))
-}
-
 // The place of the definition with the name.
-fn block_named(blocks: &[Block], name: &Name) -> Option<u16>
-    requires { length blocks.now ≤ MOST_BLOCKS }
-    ensures { result ≡ position (λ b. bytes_eq b.name name.now) blocks.now }
+fn block_named(blocks: &IndexMap<Name, Block>, name: &Name) -> Option<u16>
+    requires most { index_map_len blocks.now ≤ MOST_BLOCKS }
+    requires names { StandByName (λ b. b.name) blocks.now.entries }
+    ensures { result ≡ position (λ b. bytes_eq b.name name.now) (values blocks.now) }
 {
-    block_position(blocks, name).map(|place| place as u16)
-}
-
-fn block_position(blocks: &[Block], name: &Name) -> Option<usize>
-    ensures { result ≡ position (λ b. bytes_eq b.name name.now) blocks.now }
-{
-    blocks.iter().position(|block| is_same(block.name(), name))
-}
-
-fn is_same(one: &Name, other: &Name) -> bool
-    ensures { result ≡ bytes_eq one.now other.now }
-{
-    one == other
-}
-
-fn inner_position(inners: &[Inner], name: &Name) -> Option<usize>
-    ensures { result ≡ position (λ i. bytes_eq i.name name.now) inners.now }
-{
-    inners.iter().position(|inner| is_same(&inner.name, name))
+    place_of_name(blocks, name)
 }
 
 // Whether a component is a block of the definition.

@@ -13,5 +13,6 @@ invariant_of-self-2 c =
     record {
       lawful = subst (λ (modes : List DeclaredMode). IsLawful (record s { modes = modes })) (sym c.in_ok-push.ensures.items) lawful;
       part_names = c.self.invariant.part_names;
+      block_names = c.self.invariant.block_names;
       room = c.self.invariant.room;
     }

@@ -17,6 +17,7 @@ invariant_of-self-2 c =
     record {
       lawful = subst (λ (nets : List Net). IsLawful (record s { nets = nets })) (sym items) lawful;
       part_names = c.self.invariant.part_names;
+      block_names = c.self.invariant.block_names;
       room = c.self.invariant.room;
     }
 

@@ -18,6 +18,7 @@ invariant_of-self-2 c =
     record {
       lawful = subst (λ (parts : List Component). IsLawful (record s { parts = parts })) (sym items) lawful;
       part_names = subst (λ es. StandByName (λ (p : Component). p.name) es) (sym c.in_ok-insert.ensures.entries) (StandByName-insert (λ (p : Component). p.name) c.self.inside.parts c.self.invariant.part_names part none);
+      block_names = c.self.invariant.block_names;
       room = c.self.invariant.room;
     }
 

@@ -13,6 +13,7 @@ invariant_of-self c =
     record {
       lawful = subst (λ (readings : List Fact). IsLawful (record s { readings = readings })) (sym items) (IsLawful-without_standing c.args.cell s c.self.invariant.lawful);
       part_names = c.self.invariant.part_names;
+      block_names = c.self.invariant.block_names;
       room = omega (arith, c.self.invariant.room, c.remove.ensures.capacity);
     }
 

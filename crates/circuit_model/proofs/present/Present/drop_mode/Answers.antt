@@ -13,5 +13,6 @@ invariant_of-self c =
     record {
       lawful = subst (λ (modes : List DeclaredMode). IsLawful (record s { modes = modes })) (sym items) (IsLawful-without_last_mode s c.self.invariant.lawful);
       part_names = c.self.invariant.part_names;
+      block_names = c.self.invariant.block_names;
       room = c.self.invariant.room;
     }

@@ -15,6 +15,7 @@ invariant_of-self c =
     record {
       lawful = subst (λ (parts : List Component). IsLawful (record s { parts = parts })) (sym items) (IsLawful-without_last s c.self.invariant.lawful (subst (λ (t : PresentView). IsUnusedPart t (length t.parts - 1)) (sym c.self.view_is) c.requires.unused));
       part_names = subst (λ es. StandByName (λ (p : Component). p.name) es) (sym c.truncate.ensures.entries) (StandByName-take (λ (p : Component). p.name) c.self.inside.parts.entries c.self.invariant.part_names (c.len.result - 1));
+      block_names = c.self.invariant.block_names;
       room = c.self.invariant.room;
     }
 

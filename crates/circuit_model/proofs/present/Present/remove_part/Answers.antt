@@ -17,6 +17,7 @@ invariant_of-self c =
     record {
       lawful = subst (λ (parts : List Component). IsLawful (record s { parts = parts })) (sym items) lawful;
       part_names = subst (λ es. StandByName (λ (p : Component). p.name) es) (sym c.shift_remove_index.ensures.entries) (StandByName-remove (λ (p : Component). p.name) c.self.inside.parts.entries c.self.invariant.part_names c.args.part);
+      block_names = c.self.invariant.block_names;
       room = c.self.invariant.room;
     }
 

@@ -17,6 +17,7 @@ invariant_of-self c =
     record {
       lawful = subst (λ (parts : List Component). IsLawful (record s { parts = parts })) (sym items) (IsLawful-with_cost s c.self.invariant.lawful c.args.part c.args.cost there c.requires.low c.requires.high);
       part_names = StandByName-change (λ (p : Component). p.name) c.self.inside.parts c.self.invariant.part_names f (λ p. refl) c.args.part c.index_mut.result.now c.index_mut.ensures.value;
+      block_names = c.self.invariant.block_names;
       room = c.self.invariant.room;
     }
 

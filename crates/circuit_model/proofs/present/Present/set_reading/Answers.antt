@@ -15,5 +15,6 @@ invariant_of-self c =
     record {
       lawful = subst (λ (readings : List Fact). IsLawful (record s { readings = readings })) (sym items) lawful;
       part_names = c.self.invariant.part_names;
+      block_names = c.self.invariant.block_names;
       room = omega arith;
     }
