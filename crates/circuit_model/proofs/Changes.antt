@@ -1,7 +1,7 @@
 -- A list with one element changed, and a list without its last element.
 use Rattle.std.proofs.Common.{◌≡◌, ◌≢◌, ℕ, zero, suc, ◌-◌, ◌<◌, ◌≤◌, ◌⊎◌, inl, inr, List, [], ◌∷◌, ◌++◌, length, map, drop, set, get_or, slice_get, Some, refl, sym, ap, subst, ◌∙◌, arith}
 use Rattle.std.specs.List.{All}
-use Rattle.std.proofs.lemmas.List.{get_or-set_other, set-get_or, length-take, take-map, take-append-drop, drop_at, map-append, append_assoc}
+use Rattle.std.proofs.lemmas.List.{get_or-set_other, length-take, take-map, take-append-drop, drop_at, map-append, append_assoc}
 use Rattle.std.proofs.lemmas.List.Elements.{All-cons, All-head, All-tail, All-set, All-take, All-append, All-drop}
 use Rattle.environment_sets.specs.Lists.{IsIn, AreDistinct}
 use Rattle.environment_sets.proofs.Membership.{IsIn-left, IsIn-right, IsIn-append}
@@ -15,13 +15,11 @@ module _ {X : Type 0} where
   set_is_change f (x ∷ xs) zero d h = refl
   set_is_change f (x ∷ xs) (suc place) d h = ap (λ ys. x ∷ ys) (set_is_change f xs place d (omega arith))
 
-  -- a write of the change of what was read
-  pub set_read : (f : X → X) (xs : List X) (place : ℕ) (x : X) → place < length xs → x ≡ get_or xs place x → set xs place (f x) ≡ change_at place f xs
-  set_read f xs place x h e = ap (λ y. set xs place (f y)) e ∙ set_is_change f xs place x h
-
-  -- a write of what was read
-  pub set_same : (xs : List X) (place : ℕ) (x : X) → x ≡ get_or xs place x → set xs place x ≡ xs
-  set_same xs place x e = ap (λ y. set xs place y) e ∙ set-get_or xs place x
+  -- a change that changes nothing
+  pub change_at_nothing : (xs : List X) (place : ℕ) → change_at place (λ x. x) xs ≡ xs
+  change_at_nothing [] place = refl
+  change_at_nothing (x ∷ xs) zero = refl
+  change_at_nothing (x ∷ xs) (suc place) = ap (λ ys. x ∷ ys) (change_at_nothing xs place)
 
   pub length-change_at : (f : X → X) (xs : List X) (place : ℕ) → length (change_at place f xs) ≡ length xs
   length-change_at f [] place = refl

@@ -4,6 +4,7 @@ pub mod Monotony
 pub mod Rounds
 pub mod Paddings
 pub mod Presents
+pub mod Tables
 pub mod Readings
 pub mod Cycles
 pub mod SmallerStock
@@ -20,4 +21,5 @@ pub mod RowLemmas
 pub mod Changes
 pub mod Moves
 pub mod PresentChanges
+pub mod KeptBlocks
 pub mod Openings

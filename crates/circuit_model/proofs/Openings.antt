@@ -1,5 +1,5 @@
 -- The inner components of a block, standing free at its nets.
-use Rattle.std.proofs.Common.{◌≡◌, ℕ, zero, suc, ◌<◌, ◌≤◌, inl, inr, List, [], ◌∷◌, ◌++◌, length, map, slice_get, Option, Some, None, IsTrue, refl, sym, ap, subst, ◌∙◌, arith}
+use Rattle.std.proofs.Common.{◌≡◌, ℕ, zero, suc, ◌<◌, inl, inr, List, [], ◌∷◌, length, map, slice_get, Option, IsTrue, refl, sym, ap, subst, ◌∙◌, arith}
 use Rattle.std.specs.Prelude.{slice_index, slice_index_or}
 use Rattle.std.specs.List.{All, flat_map}
 use Rattle.std.specs.Option.{option_map}
@@ -8,14 +8,12 @@ use Rattle.std.proofs.lemmas.Option.{slice_get-map, unwrap_or-slice_get}
 use Rattle.std.proofs.lemmas.List.Elements.{All-map, All-head, All-tail}
 use Rattle.environment_sets.specs.Lists.{IsIn}
 use Rattle.environment_sets.proofs.Membership.{IsIn-append}
-use Rattle.circuit_model.specs.declared.limits.TheConstants.{LEAST_COST, USUAL_COST, MOST_COST}
 use Rattle.circuit_model.specs.declared.model.Instance.{Instance}
-use Rattle.circuit_model.specs.declared.model.Kind.{Kind}
 use Rattle.circuit_model.specs.declared.blocks.Inner.{Inner}
 use Rattle.circuit_model.specs.declared.present.Component.{Component}
 use Rattle.circuit_model.specs.declared.present.Net.{Net}
 use Rattle.circuit_model.specs.Inference.{ports_of}
-use Rattle.circuit_model.specs.Kinds.{primitive_of, RepeatAfter, RepeatsLast, are_widths, fits_value, instances, block_in}
+use Rattle.circuit_model.specs.Kinds.{primitive_of, RepeatAfter, are_widths, fits_value, instances}
 use Rattle.circuit_model.specs.Blocks.{BlockView, empty_block, width_in, nets_for, inner_instances, block_part, IsLawfulInner, IsLawfulBlock}
 use Rattle.circuit_model.specs.Present.{PresentView, width_of, block_at, IsUse, HasPins, part_by, IsLawfulComponent, IsLawful}
 use Rattle.circuit_model.specs.Opening.{opened_component}

@@ -1,7 +1,7 @@
 -- A name that is put in an array of zeros.
 use Rattle.std.proofs.Common.{◌≡◌, ℕ, ◌==◌, ◌≤◌, ◌++◌, ◌&&◌, List, [], ◌∷◌, length, take, drop, IsTrue, refl, sym, ap, ◌∙◌, arith}
 use Rattle.std.proofs.lemmas.Bool.{and_parts, and_from, leb-true, eqb-true, eq-eqb, false≢true}
-use Rattle.std.proofs.lemmas.Bool.Decides.{same_from_decides}
+use Rattle.std.proofs.lemmas.Bool.Decides.{Decides-like, same_from_decides}
 use Rattle.std.proofs.lemmas.Slice.Eq.{bytes_eq-Decides}
 use Rattle.std.proofs.lemmas.List.{length-append, length-drop, take_at, drop_at, drop-replicate}
 use Rattle.std.specs.Prelude.{replicate}
@@ -36,3 +36,7 @@ same_padded a b = same_from_decides {P = a ≡ b} _ _ (
   (λ e. and_from _ _ ((bytes_eq-Decides (padded a) (padded b)).1 (ap padded e)) (eq-eqb _ _ (ap length e))),
 )
     (bytes_eq-Decides a b)
+
+-- the test that a table makes of a name
+pub named_as : (name other : List ℕ) → (bytes_eq (padded name) (padded other) && (length name == length other)) ≡ bytes_eq other name
+named_as name other = same_padded name other ∙ same_from_decides {P = name ≡ other} _ _ (bytes_eq-Decides name other) (Decides-like (bytes_eq other name) sym sym (bytes_eq-Decides other name))

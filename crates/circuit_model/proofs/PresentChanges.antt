@@ -1,9 +1,9 @@
 -- A present with other modes, costs or definitions, or without its last net, is lawful.
 use Rattle.std.proofs.Common.{◌≡◌, ◌≢◌, ℕ, ◌-◌, ◌*◌, ◌<◌, ◌≤◌, inl, inr, List, [], ◌∷◌, ◌++◌, length, map, drop, get_or, slice_get, Option, Some, None, IsTrue, refl, sym, ap, subst, ◌∙◌, arith}
-use Rattle.std.specs.Prelude.{slice_index, slice_index_or}
+use Rattle.std.specs.Prelude.{slice_index, slice_index_or, unwrap_or}
 use Rattle.std.specs.List.{All}
 use Rattle.std.specs.Str.{bytes_eq}
-use Rattle.std.proofs.lemmas.List.{append_assoc, length_push, map-append, map_push, length-map, length-take, get_or_append_left, get_or_default, get_or-take, take-append-drop, take-map}
+use Rattle.std.proofs.lemmas.List.{append_assoc, length_push, map-append, map_push, length-map, length-take, get_or_append_left, get_or-take, take-append-drop, take-map}
 use Rattle.std.proofs.Math.Nat.{mul-le-mul_left, mul_comm}
 use Rattle.std.proofs.lemmas.Option.{unwrap_or-slice_get}
 use Rattle.std.proofs.lemmas.List.Elements.{All-nil, All-push, All-weaker}
@@ -132,8 +132,8 @@ module _ (s : PresentView) (h : IsLawful s) (some : 0 < length s.nets) (unused :
       }
 
 -- the definition that was read
-pub block_at_read : (s : PresentView) (block : ℕ) (b : BlockView) → block < length s.blocks → b ≡ get_or s.blocks block b → block_at s block ≡ b
-block_at_read s block b low e = unwrap_or-slice_get s.blocks block (empty_block []) ∙ (get_or_default s.blocks block (empty_block []) b low ∙ sym e)
+pub block_at_read : (s : PresentView) (block : ℕ) (b : BlockView) → slice_get s.blocks block ≡ Some b → block_at s block ≡ b
+block_at_read s block b at = ap (λ o. unwrap_or o (empty_block [])) at
 
 -- with other definitions, where those of which components are blocks stay
 module _ (s : PresentView) (h : IsLawful s) where

@@ -23,7 +23,7 @@ use Rattle.circuit_model.specs.Present.{PresentView, names_of, net_named, part_n
 use Rattle.circuit_model.specs.declared.limits.TheConstants.{MOST_CYCLES, MOST_NETS, MOST_CELLS, MOST_PARTS}
 use Rattle.word_domain.specs.declared.width.TheConstants.{WIDEST}
 
-passed : (b : Bool) (i n : ℕ) → cond (ltb (cond (not b) (1 + i) 0) (suc n)) (Some (cond (not b) (1 + i) 0)) None ≡ None → (b ≡ false) × (cond (ltb i n) (Some i) None ≡ None)
+pub passed : (b : Bool) (i n : ℕ) → cond (ltb (cond (not b) (1 + i) 0) (suc n)) (Some (cond (not b) (1 + i) 0)) None ≡ None → (b ≡ false) × (cond (ltb i n) (Some i) None ≡ None)
 passed b i n h = (grind (arith, nat_tests), grind (arith, nat_tests))
 
 module _ {X : Type 0} where
@@ -58,6 +58,12 @@ net_or_part-None : (net part : Option ℕ) → net_or_part net part ≡ None →
 net_or_part-None None None h = (refl, refl)
 net_or_part-None None (Some j) h = cc
 net_or_part-None (Some i) part h = cc
+
+pub no_net : (s : PresentView) (name : List ℕ) → named_in s name ≡ None → net_named s name ≡ None
+no_net s name free = (net_or_part-None (net_named s name) (part_named s name) free).0
+
+pub no_part : (s : PresentView) (name : List ℕ) → named_in s name ≡ None → part_named s name ≡ None
+no_part s name free = (net_or_part-None (net_named s name) (part_named s name) free).1
 
 pub not_named : (name other : List ℕ) → other ≡ name → bytes_eq other name ≡ false → ⊥
 not_named name other e apart = false≢true (sym apart ∙ (bytes_eq-Decides other name).1 e)

@@ -10,6 +10,7 @@ pub mod Blocks
 pub mod Present
 pub mod Padding
 pub mod Whole
+pub mod Tables
 pub mod Kept
 pub mod Settled
 pub mod Decided

@@ -1,16 +1,18 @@
 // Definitions of blocks.
 
-ghost use Rattle.std.specs.Prelude.{◌≡◌, ◌<◌, ◌++◌, ◌∷◌, [], length, slice_get, Some, IfOk, OnOk, OnErr};
-ghost use Rattle.std.specs.List.{position};
-ghost use Rattle.std.specs.Str.{bytes_eq};
-ghost use Rattle.circuit_model.specs.Blocks.{BlockView, empty_block, pin_named, inner_named};
+ghost use Rattle.std.specs.Prelude.{◌≡◌, ◌≤◌, ◌<◌, ◌++◌, ◌∷◌, [], length, slice_get, is_some, Some, None, OnOk, OnErr};
+ghost use Rattle.circuit_model.specs.Blocks.{empty_block, pin_named, inner_named};
 ghost use Rattle.circuit_model.specs.Present.{without_last};
+ghost use Rattle.circuit_model.specs.declared.limits.TheConstants.{MOST_PINS};
 
+use crate::look_up::{name_position, net_at, net_named};
 use crate::model::Kind;
 use crate::name::Name;
 use crate::present::Net;
+use indexmap::IndexMap;
 use std::alloc::{AllocError, Global};
 use std::marker::Model;
+use word_domain::Width;
 
 /// An inner component of a definition.
 #[derive(Clone, Copy, PartialEq, Eq, Debug)]
@@ -25,16 +27,35 @@ pub struct Inner {
 #[derive(Drop)]
 pub(crate) struct Block {
     name: Name,
-    pins: Vec<Net>,
-    inners: Vec<Inner>,
+    pins: IndexMap<Name, Width>,
+    // each under its own name
+    inners: IndexMap<Name, Inner>,
 }
 
 impl Model for Block {
+    ghost use Rattle.indexmap.specs.IndexMap.{values};
     ghost use Rattle.circuit_model.specs.Blocks.{BlockView};
+    ghost use Rattle.circuit_model.specs.Tables.{nets_of, StandByName};
 
     ghost Value = { BlockView };
 
-    ghost view = { λ b. record { name = b.name; pins = b.pins.items; inners = b.inners.items } };
+    ghost view = { λ b. record { name = b.name; pins = nets_of b.pins.entries; inners = values b.inners } };
+
+    ghost invariant = { λ b. StandByName (λ i. i.name) b.inners.entries };
+}
+
+impl Clone for Block {
+    ghost is_clone = { λ b c. c ≡ b };
+
+    fn clone(&self) -> Result<Block, AllocError> {
+        let pins = self.pins.clone()?;
+        let inners = self.inners.clone()?;
+        Ok(Block {
+            name: self.name,
+            pins,
+            inners,
+        })
+    }
 }
 
 impl Block {
@@ -44,21 +65,9 @@ impl Block {
     {
         Block {
             name,
-            pins: Vec::new(alloc),
-            inners: Vec::new(alloc),
+            pins: IndexMap::new(alloc),
+            inners: IndexMap::new(alloc),
         }
-    }
-
-    pub(crate) fn copy(&self, alloc: Global) -> Result<Block, AllocError>
-        ensures { IfOk result (λ b. b ≡ self.now) }
-    {
-        let pins = Vec::from_slice(alloc, &self.pins)?;
-        let inners = Vec::from_slice(alloc, &self.inners)?;
-        Ok(Block {
-            name: self.name,
-            pins,
-            inners,
-        })
     }
 
     pub(crate) fn name(&self) -> &Name
@@ -67,24 +76,54 @@ impl Block {
         &self.name
     }
 
-    pub(crate) fn pins(&self) -> &[Net]
-        ensures { result.now ≡ self.now.pins }
+    pub(crate) fn pins(&self) -> usize
+        ensures { result ≡ length self.now.pins }
     {
-        &self.pins
+        self.pins.len()
     }
 
-    pub(crate) fn inners(&self) -> &[Inner]
-        ensures { result.now ≡ self.now.inners }
+    pub(crate) fn pin_at(&self, place: u16) -> (Name, Width)
+        requires { place < length self.now.pins }
+        ensures { slice_get self.now.pins place ≡ Some (record { name = result.0; width = result.1 }) }
     {
-        &self.inners
+        net_at(&self.pins, place)
+    }
+
+    // The place of the pin with the name.
+    pub(crate) fn find_pin(&self, name: &Name) -> Option<u16>
+        requires { length self.now.pins ≤ MOST_PINS }
+        ensures { result ≡ pin_named self.now name.now }
+    {
+        net_named(&self.pins, name)
+    }
+
+    pub(crate) fn inners(&self) -> usize
+        ensures { result ≡ length self.now.inners }
+    {
+        self.inners.len()
+    }
+
+    pub(crate) fn inner_at(&self, place: u16) -> &Inner
+        requires { place < length self.now.inners }
+        ensures { slice_get self.now.inners place ≡ Some result.now }
+    {
+        &self.inners[place as usize]
+    }
+
+    // Whether an inner component has the name.
+    pub(crate) fn has_inner(&self, name: &Name) -> bool
+        ensures { result ≡ is_some (inner_named self.now name.now) }
+    {
+        name_position(&self.inners, name).is_some()
     }
 
     // One pin more. A refusal changes nothing.
     pub(crate) fn add_pin(&mut self, pin: Net) -> Result<(), AllocError>
+        requires { pin_named self.old pin.name ≡ None }
         ensures ok { OnOk result (self.new ≡ record self.old { pins = self.old.pins ++ pin ∷ [] }) }
         ensures err { OnErr result (self.new ≡ self.old) }
     {
-        self.pins.push(pin)?;
+        self.pins.insert(pin.name, pin.width)?;
         Ok(())
     }
 
@@ -97,10 +136,11 @@ impl Block {
 
     // One inner component more. A refusal changes nothing.
     pub(crate) fn add_inner(&mut self, inner: Inner) -> Result<(), AllocError>
+        requires { inner_named self.old inner.name ≡ None }
         ensures ok { OnOk result (self.new ≡ record self.old { inners = self.old.inners ++ inner ∷ [] }) }
         ensures err { OnErr result (self.new ≡ self.old) }
     {
-        self.inners.push(inner)?;
+        self.inners.insert(inner.name, inner)?;
         Ok(())
     }
 

@@ -6,6 +6,7 @@ mod chosen;
 mod instances;
 mod laws;
 pub mod limits;
+mod look_up;
 mod model;
 mod name;
 mod pins;

@@ -163,6 +163,14 @@ impl Part {
     }
 }
 
+impl Clone for Part {
+    ghost is_clone = { λ p q. q ≡ p };
+
+    fn clone(&self) -> Result<Part, AllocError> {
+        self.copy(*self.instances.allocator())
+    }
+}
+
 /// What may be assumed (de Kleer 1986): that a component works in all cycles, or that a cell was seen to have a word.
 #[derive(Drop)]
 pub enum Assumption {

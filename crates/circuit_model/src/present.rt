@@ -3,17 +3,21 @@
 ghost use Rattle.std.specs.Prelude.{◌≡◌, ◌≤◌, ◌<◌, ◌+◌, ◌-◌, ◌*◌, length, slice_get, remove, Some, None, IfOk, OnOk, OnErr, IsSome, IsTrue, is_some, false};
 ghost use Rattle.std.specs.List.{insert, list_any, position};
 ghost use Rattle.std.specs.Str.{bytes_eq};
+ghost use Rattle.indexmap.specs.IndexMap.{values, index_map_len};
 ghost use Rattle.circuit_model.specs.Names.{is_name};
 ghost use Rattle.circuit_model.specs.Present.{empty_present, named_in, reading_in, with_reading, with_cycles, with_net, without_last_net, with_part, without_last_part, without_part, with_cost, with_standing, without_reading, without_standing, with_mode, without_last_mode, block_named, block_at, with_block, without_last_block, with_pin, without_last_pin, with_inner, without_last_inner, IsLawful, IsLawfulComponent, IsLawfulMode, IsFactOf, IsUnusedNet, IsUnusedPart, IsUnusedBlock, IsUnusedPin, is_block_of, is_block_in_use};
+ghost use Rattle.circuit_model.specs.Tables.{StandByName};
 ghost use Rattle.circuit_model.specs.Blocks.{pin_named, inner_named, IsLawfulInner};
 ghost use Rattle.circuit_model.specs.declared.limits.TheConstants.{MOST_CYCLES, MOST_NETS, MOST_CELLS, MOST_PARTS, MOST_READINGS, MOST_MODES, MOST_BLOCKS, MOST_PINS, MOST_INNERS, LEAST_COST, MOST_COST};
 ghost use Rattle.word_domain.specs.declared.width.TheConstants.{WIDEST};
 
 use crate::blocks::{Block, Inner};
 use crate::limits;
+use crate::look_up::{net_at, net_named, place_of_name};
 use crate::model::{Cell, Fact, Kind, Mode, Part};
 use crate::name::Name;
 use crate::pins::Pins;
+use indexmap::IndexMap;
 use std::alloc::{AllocError, Global};
 use std::marker::Model;
 use word_domain::Width;
@@ -64,12 +68,14 @@ pub enum Named {
 #[derive(Drop)]
 pub struct Present {
     cycles: u8,
-    nets: Vec<Net>,
-    parts: Vec<Component>,
+    nets: IndexMap<Name, Width>,
+    // each under its own name
+    parts: IndexMap<Name, Component>,
     // in order of cells, with room for all
     readings: Vec<Fact>,
     modes: Vec<DeclaredMode>,
-    blocks: Vec<Block>,
+    // each under its own name
+    blocks: IndexMap<Name, Block>,
 }
 
 impl Model for Present {
@@ -92,11 +98,11 @@ impl Present {
     {
         Ok(Present {
             cycles: 1,
-            nets: Vec::new(alloc),
-            parts: Vec::new(alloc),
+            nets: IndexMap::new(alloc),
+            parts: IndexMap::new(alloc),
             readings: Vec::with_capacity(alloc, limits::MOST_READINGS as usize)?,
             modes: Vec::new(alloc),
-            blocks: Vec::new(alloc),
+            blocks: IndexMap::new(alloc),
         })
     }
 
@@ -106,10 +112,10 @@ impl Present {
     {
         let mut readings = Vec::with_capacity(alloc, limits::MOST_READINGS as usize)?;
         readings.extend_from_slice(&self.readings)?;
-        let nets = Vec::from_slice(alloc, &self.nets)?;
-        let parts = copy_parts(alloc, &self.parts)?;
+        let nets = self.nets.clone()?;
+        let parts = self.parts.clone()?;
         let modes = Vec::from_slice(alloc, &self.modes)?;
-        let blocks = copy_blocks(alloc, &self.blocks)?;
+        let blocks = self.blocks.clone()?;
         Ok(Present {
             cycles: self.cycles,
             nets,
@@ -141,8 +147,7 @@ impl Present {
         requires { place < length self.now.nets }
         ensures { slice_get self.now.nets place ≡ Some (record { name = result.0; width = result.1 }) }
     {
-        let net = self.nets[place as usize];
-        (net.name, net.width)
+        net_at(&self.nets, place)
     }
 
     /// What has the name, if anything: nets and components share one set of names.
@@ -240,7 +245,7 @@ impl Present {
         ensures value { result ≡ length (block_at self.now block).pins }
         ensures most { result ≤ MOST_PINS }
     {
-        self.blocks[block as usize].pins().len() as u16
+        self.blocks[block as usize].pins() as u16
     }
 
     /// The name and the width of a pin of a definition, by its place in order of declaration, counted from 0.
@@ -249,8 +254,7 @@ impl Present {
         requires place { place < length (block_at self.now block).pins }
         ensures { slice_get (block_at self.now block).pins place ≡ Some (record { name = result.0; width = result.1 }) }
     {
-        let pin = self.blocks[block as usize].pins()[place as usize];
-        (pin.name, pin.width)
+        self.blocks[block as usize].pin_at(place)
     }
 
     /// The place of the pin of a definition with the name, if there is one.
@@ -258,7 +262,7 @@ impl Present {
         requires { block < length self.now.blocks }
         ensures { result ≡ pin_named (block_at self.now block) name.now }
     {
-        net_named(self.blocks[block as usize].pins(), name)
+        self.blocks[block as usize].find_pin(name)
     }
 
     /// Whether an inner component of a definition has the name.
@@ -266,7 +270,7 @@ impl Present {
         requires { block < length self.now.blocks }
         ensures { result ≡ is_some (inner_named (block_at self.now block) name.now) }
     {
-        inner_position(self.blocks[block as usize].inners(), name).is_some()
+        self.blocks[block as usize].has_inner(name)
     }
 
     /// Whether a component is a block of a definition.
@@ -283,7 +287,7 @@ impl Present {
         ensures value { result ≡ length (block_at self.now block).inners }
         ensures most { result ≤ MOST_INNERS }
     {
-        self.blocks[block as usize].inners().len() as u16
+        self.blocks[block as usize].inners() as u16
     }
 
     /// The name, the kind and the pins by their places of an inner component of a definition, by its place in order of
@@ -293,7 +297,7 @@ impl Present {
         requires place { place < length (block_at self.now block).inners }
         ensures inner { slice_get (block_at self.now block).inners place ≡ Some (record { name = result.0; kind = result.1; pins = result.2 }) }
     {
-        let inner = self.blocks[block as usize].inners()[place as usize];
+        let inner = self.blocks[block as usize].inner_at(place);
         let pins = inner.pins;
         (inner.name, inner.kind, pins)
     }
@@ -316,8 +320,9 @@ impl Present {
         ensures ok { OnOk result (self.new ≡ with_net (record { name = name; width = width }) self.old) }
         ensures err { OnErr result (self.new ≡ self.old) }
     {
-        let net = Net::new(name, width);
-        self.nets.push(net)?;
+        // For the proof alone: the bytes of a name are one, and a width is in its range.
+        let _net = Net::new(name, width);
+        self.nets.insert(name, width)?;
         Ok(())
     }
 
@@ -332,7 +337,7 @@ impl Present {
     {
         // For the proof alone: the bytes of a name are one.
         let _name = component.name.bytes();
-        self.parts.push(component)?;
+        self.parts.insert(component.name, component)?;
         Ok(())
     }
 
@@ -360,7 +365,7 @@ impl Present {
         requires unused { IsUnusedPart self.old part }
         ensures { self.new ≡ without_part part self.old }
     {
-        self.parts.remove(part as usize);
+        self.parts.shift_remove_index(part as usize);
     }
 
     /// Puts a measurement among the standing ones, in order of cells. It takes no memory: the room was taken when the
@@ -426,7 +431,7 @@ impl Present {
         // For the proof alone: the bytes of a name are one.
         let _name = name.bytes();
         let block = Block::new(*self.blocks.allocator(), name);
-        self.blocks.push(block)?;
+        self.blocks.insert(name, block)?;
         Ok(())
     }
 
@@ -500,11 +505,11 @@ impl Present {
     }
 }
 
-impl Component {
-    fn copy(&self, alloc: Global) -> Result<Component, AllocError>
-        ensures { IfOk result (λ c. c ≡ self.now) }
-    {
-        let part = self.part.copy(alloc)?;
+impl Clone for Component {
+    ghost is_clone = { λ c d. d ≡ c };
+
+    fn clone(&self) -> Result<Component, AllocError> {
+        let part = self.part.clone()?;
         let nets = self.nets;
         Ok(Component {
             name: self.name,
@@ -531,87 +536,29 @@ impl Net {
     }
 }
 
-fn copy_parts(alloc: Global, parts: &[Component]) -> Result<Vec<Component>, AllocError>
-    ensures { IfOk result (λ v. v.items ≡ parts.now) }
-{
-    let mut copies = Vec::new(alloc);
-    for part in parts {
-        let copy = part.copy(alloc)?;
-        copies.push(copy)?;
-    }
-    Ok(copies)
-}
-
-fn copy_blocks(alloc: Global, blocks: &[Block]) -> Result<Vec<Block>, AllocError>
-    ensures { IfOk result (λ v. v.items ≡ blocks.now) }
-{
-    let mut copies = Vec::new(alloc);
-    for block in blocks {
-        let copy = block.copy(alloc)?;
-        copies.push(copy)?;
-    }
-    Ok(copies)
-}
-
-// The place of the net with the name.
-fn net_named(nets: &[Net], name: &Name) -> Option<u16>
-    requires { length nets.now ≤ MOST_NETS }
-    ensures { result ≡ position (λ n. bytes_eq n.name name.now) nets.now }
-{
-    net_position(nets, name).map(|place| place as u16)
-}
-
-fn net_position(nets: &[Net], name: &Name) -> Option<usize>
-    ensures { result ≡ position (λ n. bytes_eq n.name name.now) nets.now }
-{
-    nets.iter().position(|net| is_same(&net.name, name))
-}
-
 // The place of the component with the name.
-fn part_named(parts: &[Component], name: &Name) -> Option<u16>
-    requires { length parts.now ≤ MOST_PARTS }
-    ensures { result ≡ position (λ p. bytes_eq p.name name.now) parts.now }
+fn part_named(parts: &IndexMap<Name, Component>, name: &Name) -> Option<u16>
+    requires most { index_map_len parts.now ≤ MOST_PARTS }
+    requires names { StandByName (λ p. p.name) parts.now.entries }
+    ensures { result ≡ position (λ p. bytes_eq p.name name.now) (values parts.now) }
 {
-    part_position(parts, name).map(|place| place as u16)
-}
-
-fn part_position(parts: &[Component], name: &Name) -> Option<usize>
-    ensures { result ≡ position (λ p. bytes_eq p.name name.now) parts.now }
-{
-    parts.iter().position(|part| is_same(&part.name, name))
+    place_of_name(parts, name)
 }
 
 // The place of the definition with the name.
-fn block_named(blocks: &[Block], name: &Name) -> Option<u16>
-    requires { length blocks.now ≤ MOST_BLOCKS }
-    ensures { result ≡ position (λ b. bytes_eq b.name name.now) blocks.now }
+fn block_named(blocks: &IndexMap<Name, Block>, name: &Name) -> Option<u16>
+    requires most { index_map_len blocks.now ≤ MOST_BLOCKS }
+    requires names { StandByName (λ b. b.name) blocks.now.entries }
+    ensures { result ≡ position (λ b. bytes_eq b.name name.now) (values blocks.now) }
 {
-    block_position(blocks, name).map(|place| place as u16)
-}
-
-fn block_position(blocks: &[Block], name: &Name) -> Option<usize>
-    ensures { result ≡ position (λ b. bytes_eq b.name name.now) blocks.now }
-{
-    blocks.iter().position(|block| is_same(block.name(), name))
-}
-
-fn is_same(one: &Name, other: &Name) -> bool
-    ensures { result ≡ bytes_eq one.now other.now }
-{
-    one == other
-}
-
-fn inner_position(inners: &[Inner], name: &Name) -> Option<usize>
-    ensures { result ≡ position (λ i. bytes_eq i.name name.now) inners.now }
-{
-    inners.iter().position(|inner| is_same(&inner.name, name))
+    place_of_name(blocks, name)
 }
 
 // Whether a component is a block of the definition.
-fn has_block(parts: &[Component], block: u16) -> bool
-    ensures { result ≡ list_any (is_block_of block) parts.now }
+fn has_block(parts: &IndexMap<Name, Component>, block: u16) -> bool
+    ensures { result ≡ list_any (is_block_of block) (values parts.now) }
 {
-    parts.iter().any(|part| is_block_of(part, block))
+    parts.values().any(|part| is_block_of(part, block))
 }
 
 fn is_block_of(part: &Component, block: u16) -> bool

@@ -12,5 +12,7 @@ invariant_of-self-2 c =
     let lawful = subst (λ (t : PresentView). IsLawful t → IsLawful (with_mode m t)) (sym c.self.view_is) (λ h. IsLawful-with_mode c.args.self.now h m c.requires.lawful c.requires.room) c.self.invariant.lawful in
     record {
       lawful = subst (λ (modes : List DeclaredMode). IsLawful (record s { modes = modes })) (sym c.in_ok-push.ensures.items) lawful;
+      part_names = c.self.invariant.part_names;
+      block_names = c.self.invariant.block_names;
       room = c.self.invariant.room;
     }

@@ -12,6 +12,8 @@ invariant_of-self c =
     let items : c.remove.new.self.items ≡ without_reading c.args.cell s.readings = c.remove.ensures.items ∙ subst (λ (readings : List Fact). remove readings c.place_at-place.result ≡ without_reading c.args.cell readings) c.deref.ensures.value c.place_at-place.ensures.place in
     record {
       lawful = subst (λ (readings : List Fact). IsLawful (record s { readings = readings })) (sym items) (IsLawful-without_standing c.args.cell s c.self.invariant.lawful);
+      part_names = c.self.invariant.part_names;
+      block_names = c.self.invariant.block_names;
       room = omega (arith, c.self.invariant.room, c.remove.ensures.capacity);
     }
 

@@ -12,5 +12,7 @@ invariant_of-self c =
     let items : c.truncate.new.self.items ≡ without_last s.modes = c.truncate.ensures.items ∙ ap (λ (n : ℕ). take (n - 1) c.self.inside.modes.items) count in
     record {
       lawful = subst (λ (modes : List DeclaredMode). IsLawful (record s { modes = modes })) (sym items) (IsLawful-without_last_mode s c.self.invariant.lawful);
+      part_names = c.self.invariant.part_names;
+      block_names = c.self.invariant.block_names;
       room = c.self.invariant.room;
     }

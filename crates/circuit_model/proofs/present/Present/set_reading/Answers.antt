@@ -14,5 +14,7 @@ invariant_of-self c =
     let items = c.in-Ok.ensures.items ∙ subst (λ (readings : List Fact). insert readings c.place_of-place.result fact ≡ with_reading fact readings) c.deref.ensures.value c.place_of-place.ensures.place in
     record {
       lawful = subst (λ (readings : List Fact). IsLawful (record s { readings = readings })) (sym items) lawful;
+      part_names = c.self.invariant.part_names;
+      block_names = c.self.invariant.block_names;
       room = omega arith;
     }
