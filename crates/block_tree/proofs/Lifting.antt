@@ -177,7 +177,7 @@ module _ (s : PresentView) (lawful : IsLawful s) (place : ℕ) (c : Component) (
 
   -- what clashes clashes when it is lifted
   pub lifted_clashes : AreRefuted (circuit_of q) (positions_of q.parts C) → AreRefuted (circuit_of s) (positions_of s.parts (lift s c C))
-  lifted_clashes h = Clashes-along {InQ} {InS} readings_within parts_within h
+  lifted_clashes h = Clashes-along InQ InS readings_within parts_within h
 
 positions_below : (parts : List Component) (C : Set (List ℕ)) → IsBelow (length parts) (positions_of parts C)
 positions_below parts C k h = let r : (d : Component) × (slice_get parts k ≡ Some d) × IsTrue (C d.name) = passes-elim (λ (p : Component). C p.name) (slice_get parts k) h in slice_get_within parts k r.0 r.1

@@ -19,7 +19,7 @@ AreTwoWords-map g h = record { cell = h.cell; low = h.low; high = h.high; low_ho
 
 -- what is assumed on one side is assumed on the other, there perhaps of a larger part
 module _
-    {A B : Assumption → Type 0} (readings : (f : Fact) → A (Reading f) → B (Reading f))
+    (A B : Assumption → Type 0) (readings : (f : Fact) → A (Reading f) → B (Reading f))
     (parts : (part : List Instance) → A (Part part) → (i : Instance) → IsIn part i → (whole : List Instance) × B (Part whole) × IsIn whole i)
   where
     IsForced-along : {H K : Fact → Type 0} {f : Fact} → ((f : Fact) → H f → K f) → IsForced A H f → IsForced B K f
@@ -63,19 +63,19 @@ module _ {A B : Assumption → Type 0} (more : (a : Assumption) → A a → B a)
   same_part part assumed i h = (part, more _ assumed, h)
 
   pub IsForced-map : {H K : Fact → Type 0} {f : Fact} → ((f : Fact) → H f → K f) → IsForced A H f → IsForced B K f
-  IsForced-map g s = IsForced-along (λ f. more (Reading f)) same_part g s
+  IsForced-map g s = IsForced-along A B (λ f. more (Reading f)) same_part g s
 
   pub IsRefuted-map : {H K : Fact → Type 0} → ((f : Fact) → H f → K f) → IsRefuted A H → IsRefuted B K
-  IsRefuted-map g s = IsRefuted-along (λ f. more (Reading f)) same_part g s
+  IsRefuted-map g s = IsRefuted-along A B (λ f. more (Reading f)) same_part g s
 
   pub Holds-map : (n : ℕ) (f : Fact) → Holds A n f → Holds B n f
-  Holds-map n f h = Holds-along (λ f. more (Reading f)) same_part n f h
+  Holds-map n f h = Holds-along A B (λ f. more (Reading f)) same_part n f h
 
   pub Follows-map : (f : Fact) → Follows A f → Follows B f
   Follows-map f (n, h) = (n, Holds-map n f h)
 
   pub Clashes-map : Clashes A → Clashes B
-  Clashes-map h = Clashes-along (λ f. more (Reading f)) same_part h
+  Clashes-map h = Clashes-along A B (λ f. more (Reading f)) same_part h
 
 module _ {N : Type 0} where
   chosen_in_more : (S : Stock N) (E F : Set N) → E ⊆ F → (a : Assumption) → IsChosen S E a → IsChosen S F a
