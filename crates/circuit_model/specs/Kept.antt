@@ -10,7 +10,7 @@ use Rattle.circuit_model.specs.declared.limits.TheConstants.{MOST_READINGS}
 abbrev pub view_of : Inside → PresentView
 view_of p = record { cycles = p.cycles; nets = nets_of p.nets.entries; parts = values p.parts; readings = p.readings.items; modes = p.modes.items; blocks = values p.blocks }
 
--- the setup is lawful, each component and each definition stands under its own name, and there is room for each measurement that may stand
+-- the present is lawful, each component and each definition stands under its own name, and there is room for each measurement that may stand
 pub record IsKept (p : Inside) : Type 0 where
   pub lawful : IsLawful (view_of p)
   pub part_names : StandByName (λ c. c.name) p.parts.entries
