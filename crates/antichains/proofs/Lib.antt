@@ -2,3 +2,4 @@ pub mod Larger
 pub mod Changes
 pub mod Nearer
 pub mod Signing
+pub mod Walked

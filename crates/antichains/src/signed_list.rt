@@ -1,20 +1,21 @@
-// Lists of environments, each with its signature, by which most are passed over unread.
+// Lists of environments, each with its signature and its size, by which most are passed over unread.
 ghost use Rattle.std.specs.Prelude.{◌≡◌, ◌<◌, ◌≤◌, ◌↔◌, ◌++◌, ◌∷◌, [], IsTrue, IfOk, MatchOption, Some, filter, length, map, not, slice_get, vec_len, vec_capacity};
 ghost use Rattle.environment_sets.specs.declared.environment.Env.{Env};
 ghost use Rattle.environment_sets.specs.Sets.{◌⊆◌, is_within};
 ghost use Rattle.environment_sets.specs.Members.{members, HasMember};
 ghost use Rattle.environment_sets.specs.Families.{IsCovered};
 ghost use Rattle.environment_sets.specs.Signatures.{signature as signature_of};
-ghost use Rattle.antichains.specs.Signed.{IsSigned, HasRoom, IsInsideAMember};
+ghost use Rattle.antichains.specs.Signed.{size_of, IsSigned, HasRoom, IsInsideAMember};
 
 use environment_sets::{Env, SLOTS};
 use std::alloc::{AllocError, Global};
 
-/// A list of environments, with the signature of each at its place.
+/// A list of environments, with the signature and the size of each at its place.
 #[derive(Drop)]
 pub struct SignedList {
     pub list: Vec<Env>,
     pub signatures: Vec<u64>,
+    pub sizes: Vec<u16>,
 }
 
 impl SignedList {
@@ -26,6 +27,7 @@ impl SignedList {
         SignedList {
             list: Vec::new(alloc),
             signatures: Vec::new(alloc),
+            sizes: Vec::new(alloc),
         }
     }
 
@@ -37,7 +39,8 @@ impl SignedList {
         ensures room { IfOk result (λ _. HasRoom self.new) }
     {
         self.list.reserve(1)?;
-        self.signatures.reserve(1)
+        self.signatures.reserve(1)?;
+        self.sizes.reserve(1)
     }
 
     /// Puts the environment behind the others, where there is room for it.
@@ -48,6 +51,7 @@ impl SignedList {
         ensures signed { IsSigned self.new }
     {
         push_signature(&mut self.signatures, env.signature());
+        push_size(&mut self.sizes, env.size());
         push_member(&mut self.list, env);
     }
 
@@ -128,15 +132,19 @@ impl SignedList {
         signature & self.signatures[place] == signature && env.is_subset(&self.list[place])
     }
 
-    // Writes the signatures anew, where some environments were dropped.
+    // Writes the signatures and the sizes anew, where some environments were dropped.
     fn sign(&mut self)
-        requires { vec_len self.old.list ≤ vec_len self.old.signatures }
+        requires signatures { vec_len self.old.list ≤ vec_len self.old.signatures }
+        requires sizes { vec_len self.old.list ≤ vec_len self.old.sizes }
         ensures same { self.new.list ≡ self.old.list }
         ensures signed { IsSigned self.new }
-        ensures room { vec_len self.old.signatures < vec_capacity self.old.signatures → vec_len self.new.signatures < vec_capacity self.new.signatures }
+        ensures signatures { vec_len self.old.signatures < vec_capacity self.old.signatures → vec_len self.new.signatures < vec_capacity self.new.signatures }
+        ensures sizes { vec_len self.old.sizes < vec_capacity self.old.sizes → vec_len self.new.sizes < vec_capacity self.new.sizes }
     {
         self.signatures.truncate(self.list.len());
         write_signatures(&self.list, &mut self.signatures);
+        self.sizes.truncate(self.list.len());
+        write_sizes(&self.list, &mut self.sizes);
     }
 }
 
@@ -147,6 +155,16 @@ fn write_signatures(list: &[Env], signatures: &mut [u64])
 {
     for place in 0..list.len() {
         signatures[place] = list[place].signature();
+    }
+}
+
+// The size of each environment is written at its place.
+fn write_sizes(list: &[Env], sizes: &mut [u16])
+    requires { length list.now ≡ length sizes.old }
+    ensures { sizes.new ≡ map size_of list.now }
+{
+    for place in 0..list.len() {
+        sizes[place] = list[place].size();
     }
 }
 
@@ -166,6 +184,16 @@ fn push_signature(signatures: &mut Vec<u64>, signature: u64)
     ensures { signatures.new.items ≡ signatures.old.items ++ signature ∷ [] }
 {
     if signatures.push(signature).is_err() {
+        unreachable!();
+    }
+}
+
+// Puts the size behind the others.
+fn push_size(sizes: &mut Vec<u16>, size: u16)
+    requires { vec_len sizes.old < vec_capacity sizes.old }
+    ensures { sizes.new.items ≡ sizes.old.items ++ size ∷ [] }
+{
+    if sizes.push(size).is_err() {
         unreachable!();
     }
 }
