@@ -3,3 +3,4 @@ pub mod Changes
 pub mod Nearer
 pub mod Signing
 pub mod Walked
+pub mod Blocks

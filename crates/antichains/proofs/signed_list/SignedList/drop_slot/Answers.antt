@@ -22,4 +22,4 @@ returns-else-len-before-clause-signed c =
     let many : length old.items ≤ length new.items = omega (arith, old.ok.0, new.ok.0, c.len-before.ensures, c.len.ensures, c.if-len-before.false) in
     let all : length old.items ≤ length (filter test old.items) = omega (arith, many, ap length left) in
     let same : new.items ≡ old.items = left ∙ none_dropped test old.items all in
-    record { signatures = c.requires.signed.signatures ∙ sym (ap (map signature) same); sizes = c.requires.signed.sizes ∙ sym (ap (map size_of) same) }
+    record { signatures = c.requires.signed.signatures ∙ sym (ap (map signature) same); shared = c.requires.signed.shared; sizes = c.requires.signed.sizes ∙ sym (ap (map size_of) same) }
