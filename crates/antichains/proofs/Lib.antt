@@ -2,3 +2,5 @@ pub mod Larger
 pub mod Changes
 pub mod Nearer
 pub mod Signing
+pub mod Walked
+pub mod Blocks

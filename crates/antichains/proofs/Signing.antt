@@ -15,38 +15,38 @@ use Rattle.environment_sets.proofs.Membership.{IsIn-map, map-IsIn, slice_get-IsI
 use Rattle.environment_sets.proofs.Signed.{subsets_have_less}
 use Rattle.antichains.specs.Signed.{IsInsideAMember}
 
--- ---- signatures that are written one by one
+-- ---- numbers of the environments that are written one by one
 
--- below i, each word is the signature of the environment at its place
-pub record AreWritten (es : List Env) (ws : List ℕ) (i : ℕ) : Type 0 where
+-- below i, each number is f of the environment at its place
+pub record AreWritten (f : Env → ℕ) (es : List Env) (ws : List ℕ) (i : ℕ) : Type 0 where
   pub long : length ws ≡ length es
-  pub below : (k : ℕ) → k < i → get_or ws k 0 ≡ get_or (map signature es) k 0
+  pub below : (k : ℕ) → k < i → get_or ws k 0 ≡ get_or (map f es) k 0
 
--- the signature of the environment at the place
-pub signature_at : (es : List Env) (i : ℕ) (m : Env) → i < length es → m ≡ get_or es i m → get_or (map signature es) i 0 ≡ signature m
-signature_at es i m low is = get_or-map signature es i m 0 low ∙ ap signature (sym is)
+-- f of the environment at the place
+pub number_at : (f : Env → ℕ) (es : List Env) (i : ℕ) (m : Env) → i < length es → m ≡ get_or es i m → get_or (map f es) i 0 ≡ f m
+number_at f es i m low is = get_or-map f es i m 0 low ∙ ap f (sym is)
 
-pub none_written : (es : List Env) (ws : List ℕ) → length ws ≡ length es → AreWritten es ws 0
-none_written es ws long = record { long = long; below = λ k h. absurd (omega arith) }
+pub none_written : (f : Env → ℕ) (es : List Env) (ws : List ℕ) → length ws ≡ length es → AreWritten f es ws 0
+none_written f es ws long = record { long = long; below = λ k h. absurd (omega arith) }
 
-pub one_more_written : (es : List Env) (ws : List ℕ) (i w : ℕ) (m : Env) → AreWritten es ws i → i < length es → m ≡ get_or es i m → w ≡ signature m → AreWritten es (set ws i w) (i + 1)
-one_more_written es ws i w m so low is written = record {
+pub one_more_written : (f : Env → ℕ) (es : List Env) (ws : List ℕ) (i w : ℕ) (m : Env) → AreWritten f es ws i → i < length es → m ≡ get_or es i m → w ≡ f m → AreWritten f es (set ws i w) (i + 1)
+one_more_written f es ws i w m so low is written = record {
   long = length-set ws i w ∙ so.long;
-  below = below_more _ _ (λ k lower. let other : k ≢ i = omega arith in get_or-set_other ws i k w 0 other ∙ so.below k lower) (get_or-set_same ws i w 0 (omega (arith, so.long)) ∙ (written ∙ sym (signature_at es i m low is)));
+  below = below_more _ _ (λ k lower. let other : k ≢ i = omega arith in get_or-set_other ws i k w 0 other ∙ so.below k lower) (get_or-set_same ws i w 0 (omega (arith, so.long)) ∙ (written ∙ sym (number_at f es i m low is)));
 }
 
-pub all_written : (es : List Env) (ws : List ℕ) (i : ℕ) → length es ≤ i → AreWritten es ws i → ws ≡ map signature es
-all_written es ws i past so =
-    let long : length (map signature es) ≡ length es = length-map es signature in
-    same_lists ws (map signature es) (so.long ∙ sym long) (λ j d low. get_or_default ws j d 0 low ∙ (so.below j (omega (arith, low, so.long)) ∙ sym (get_or_default (map signature es) j d 0 (omega (arith, low, so.long, long)))))
+pub all_written : (f : Env → ℕ) (es : List Env) (ws : List ℕ) (i : ℕ) → length es ≤ i → AreWritten f es ws i → ws ≡ map f es
+all_written f es ws i past so =
+    let long : length (map f es) ≡ length es = length-map es f in
+    same_lists ws (map f es) (so.long ∙ sym long) (λ j d low. get_or_default ws j d 0 low ∙ (so.below j (omega (arith, low, so.long)) ∙ sym (get_or_default (map f es) j d 0 (omega (arith, low, so.long, long)))))
 
 -- ---- a test that a signature spares
 
--- the word at the place is the signature of the environment there
-pub own_signature : (es : List Env) (ws : List ℕ) (i d w : ℕ) (e : Env) → ws ≡ map signature es → w ≡ get_or ws i d → slice_get es i ≡ Some e → w ≡ signature e
-own_signature es ws i d w e signed is at =
+-- the number at the place is f of the environment there
+pub own_number : (f : Env → ℕ) (es : List Env) (ws : List ℕ) (i d w : ℕ) (e : Env) → ws ≡ map f es → w ≡ get_or ws i d → slice_get es i ≡ Some e → w ≡ f e
+own_number f es ws i d w e written is at =
     let low : i < length es = slice_get_within es i e at in
-    is ∙ (ap (λ l. get_or l i d) signed ∙ (get_or-map signature es i e d low ∙ ap signature (get_or_from_slice_get es i e e at)))
+    is ∙ (ap (λ l. get_or l i d) written ∙ (get_or-map f es i e d low ∙ ap f (get_or_from_slice_get es i e e at)))
 
 -- of a subset the signature is part of the other's, as the code tests it
 pub subset_needs : (e f : Env) (a b : ℕ) → a ≡ signature e → b ≡ signature f → members e ⊆ members f → bit_and a b ≡ a

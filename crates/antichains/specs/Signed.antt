@@ -1,19 +1,42 @@
 -- Lists of environments with their signatures.
-use Rattle.std.specs.Prelude.{◌≡◌, ◌<◌, ℕ, List, map, vec_len, vec_capacity}
+use Rattle.std.specs.Prelude.{◌≡◌, ◌<◌, ◌+◌, ◌-◌, ◌/◌, ℕ, List, Some, bit_and, length, map, slice_get, slice_index, vec_len, vec_capacity}
 use Rattle.environment_sets.specs.declared.environment.Env.{Env}
-use Rattle.environment_sets.specs.Sets.{Set, ◌⊆◌}
-use Rattle.environment_sets.specs.Members.{HasMember}
+use Rattle.environment_sets.specs.declared.environment.TheConstants.{SLOTS}
+use Rattle.environment_sets.specs.Sets.{Set, ◌⊆◌, size_below}
+use Rattle.environment_sets.specs.Members.{members, HasMember}
 use Rattle.environment_sets.specs.Signatures.{signature}
 use Rattle.antichains.specs.declared.signed_list.SignedList.{SignedList}
+use Rattle.antichains.specs.declared.signed_list.TheConstants.{BLOCK}
 
--- the signature of each environment stands at its place
+-- how many slots the environment has
+abbrev pub size_of : Env → ℕ
+size_of e = size_below SLOTS (members e)
+
+-- how many blocks so many signatures take
+abbrev pub blocks_of : ℕ → ℕ
+blocks_of count = (count + BLOCK - 1) / BLOCK
+
+-- what stands for a block has no bit that a signature of the block lacks
+pub record AreShared (signatures shared : List ℕ) : Type 0 where
+  pub blocks : length shared ≡ blocks_of (length signatures)
+  pub part : (k : ℕ) → k < length signatures → bit_and (slice_index shared (k / BLOCK)) (slice_index signatures k) ≡ slice_index shared (k / BLOCK)
+
+-- no environment of the block is a subset of the set
+abbrev pub NoneInBlock : ℕ → List Env → Set ℕ → Type 0
+NoneInBlock block es E = (k : ℕ) (e : Env) → k / BLOCK ≡ block → slice_get es k ≡ Some e → members e ⊆ E → ⊥
+
+-- the signature and the size of each environment stand at its place, and for each block what its signatures have
 pub record IsSigned (s : SignedList) : Type 0 where
   pub signatures : s.signatures.items ≡ map signature s.list.items
+  pub shared : AreShared s.signatures.items s.shared.items
+  pub sizes : s.sizes.items ≡ map size_of s.list.items
 
 -- there is room for one environment more
 pub record HasRoom (s : SignedList) : Type 0 where
   pub list : vec_len s.list < vec_capacity s.list
   pub signatures : vec_len s.signatures < vec_capacity s.signatures
+  pub shared : vec_len s.shared < vec_capacity s.shared
+  pub sizes : vec_len s.sizes < vec_capacity s.sizes
 
 -- the set is a subset of one of the environments
 abbrev pub IsInsideAMember : List Env → Set ℕ → Type 0

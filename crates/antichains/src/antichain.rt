@@ -9,8 +9,8 @@ ghost use Rattle.environment_sets.specs.Orders.{ListsAll, IsOrder};
 ghost use Rattle.environment_sets.specs.Walks.{ComesAfter, GivesNextEnv, envs_left};
 ghost use Rattle.antichains.specs.Largest.{AreAtMost};
 ghost use Rattle.antichains.specs.Signed.{IsSigned, HasRoom};
-ghost use Rattle.antichains.specs.Nearest.{IsBehind, IsNearer, IsPassed};
 
+use crate::nearest::first_after;
 use crate::signed_list::SignedList;
 use environment_sets::{Env, SLOTS};
 use std::alloc::{AllocError, Global};
@@ -187,13 +187,7 @@ impl Antichain {
         ensures next { GivesNextEnv order.now self.now mask.now (option_copied last.entry) result }
         ensures falls { IfSome result (λ e. envs_left order.now self.now mask.now (Some e) < envs_left order.now self.now mask.now (option_copied last.entry)) }
     {
-        let mut next = None;
-        for member in &self.signed.list {
-            if is_nearer(order, mask, last, &next, member) {
-                next = Some(*member);
-            }
-        }
-        next
+        first_after(&self.signed, order, mask, last)
     }
 }
 
@@ -218,54 +212,5 @@ fn is_subset_at(list: &[Env], place: usize, env: &Env) -> bool
     match list.get(place) {
         Some(member) => member.is_subset(env),
         None => false,
-    }
-}
-
-// Whether the member is inside the mask, comes after the last, and is not behind what was found before.
-fn is_nearer(
-    order: &[u16],
-    mask: &Env,
-    last: Option<&Env>,
-    found: &Option<Env>,
-    member: &Env,
-) -> bool
-    requires slots { IsOrder SLOTS order.now }
-    requires mask_listed { ListsAll order.now (members mask.now) }
-    requires last_listed { ForSome last (λ l. ListsAll order.now (members l.now)) }
-    requires found_listed { ForSome found.now (λ e. ListsAll order.now (members e)) }
-    ensures { MatchBool result (IsNearer order.now (members mask.now) (option_map members (option_copied last.entry)) (option_map members found.now) (members member.now)) (IsPassed order.now (members mask.now) (option_map members (option_copied last.entry)) (option_map members found.now) (members member.now)) }
-{
-    if !member.is_subset(mask) {
-        return false;
-    }
-    if is_behind(order, found, member) {
-        return false;
-    }
-    comes_after(order, last, member)
-}
-
-// Whether something was found that comes before the member.
-fn is_behind(order: &[u16], found: &Option<Env>, member: &Env) -> bool
-    requires slots { IsOrder SLOTS order.now }
-    requires found_listed { ForSome found.now (λ e. ListsAll order.now (members e)) }
-    requires listed { ListsAll order.now (members member.now) }
-    ensures { IsTrue result ↔ IsBehind order.now (option_map members found.now) (members member.now) }
-{
-    match found {
-        Some(env) => env.compare_in(order, member).is_lt(),
-        None => false,
-    }
-}
-
-// Whether the member comes after the last.
-fn comes_after(order: &[u16], last: Option<&Env>, member: &Env) -> bool
-    requires slots { IsOrder SLOTS order.now }
-    requires last_listed { ForSome last (λ l. ListsAll order.now (members l.now)) }
-    requires listed { ListsAll order.now (members member.now) }
-    ensures { IsTrue result ↔ ComesAfter order.now (option_map members (option_copied last.entry)) (members member.now) }
-{
-    match last {
-        Some(last) => last.compare_in(order, member).is_lt(),
-        None => true,
     }
 }

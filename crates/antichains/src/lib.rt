@@ -2,6 +2,7 @@
 #![tactic(auto)]
 
 mod antichain;
+mod nearest;
 mod signed_list;
 
 pub use antichain::{Antichain, Inserted};

@@ -1,20 +1,26 @@
-// Lists of environments, each with its signature, by which most are passed over unread.
-ghost use Rattle.std.specs.Prelude.{◌≡◌, ◌<◌, ◌≤◌, ◌↔◌, ◌++◌, ◌∷◌, [], IsTrue, IfOk, MatchOption, Some, filter, length, map, not, slice_get, vec_len, vec_capacity};
+// Lists of environments, each with its signature and its size, by which most are passed over unread.
+ghost use Rattle.std.specs.Prelude.{◌≡◌, ◌<◌, ◌≤◌, ◌/◌, ◌%◌, ◌==◌, if◌then◌else◌, ◌↔◌, ◌++◌, ◌∷◌, [], IsTrue, IfOk, MatchOption, Some, bit_and, filter, length, map, not, slice_get, slice_index, slice_set, vec_len, vec_capacity};
 ghost use Rattle.environment_sets.specs.declared.environment.Env.{Env};
 ghost use Rattle.environment_sets.specs.Sets.{◌⊆◌, is_within};
 ghost use Rattle.environment_sets.specs.Members.{members, HasMember};
 ghost use Rattle.environment_sets.specs.Families.{IsCovered};
 ghost use Rattle.environment_sets.specs.Signatures.{signature as signature_of};
-ghost use Rattle.antichains.specs.Signed.{IsSigned, HasRoom, IsInsideAMember};
+ghost use Rattle.antichains.specs.Signed.{size_of, blocks_of, AreShared, IsSigned, HasRoom, IsInsideAMember, NoneInBlock};
 
 use environment_sets::{Env, SLOTS};
 use std::alloc::{AllocError, Global};
 
-/// A list of environments, with the signature of each at its place.
+// So many signatures stand side by side in a block.
+const BLOCK: usize = 16;
+
+/// A list of environments, with the signature and the size of each at its place.
 #[derive(Drop)]
 pub struct SignedList {
     pub list: Vec<Env>,
     pub signatures: Vec<u64>,
+    // For each block what all of its signatures have.
+    pub shared: Vec<u64>,
+    pub sizes: Vec<u16>,
 }
 
 impl SignedList {
@@ -26,6 +32,8 @@ impl SignedList {
         SignedList {
             list: Vec::new(alloc),
             signatures: Vec::new(alloc),
+            shared: Vec::new(alloc),
+            sizes: Vec::new(alloc),
         }
     }
 
@@ -37,7 +45,9 @@ impl SignedList {
         ensures room { IfOk result (λ _. HasRoom self.new) }
     {
         self.list.reserve(1)?;
-        self.signatures.reserve(1)
+        self.signatures.reserve(1)?;
+        self.shared.reserve(1)?;
+        self.sizes.reserve(1)
     }
 
     /// Puts the environment behind the others, where there is room for it.
@@ -47,7 +57,10 @@ impl SignedList {
         ensures pushed { self.new.list.items ≡ self.old.list.items ++ env ∷ [] }
         ensures signed { IsSigned self.new }
     {
-        push_signature(&mut self.signatures, env.signature());
+        let signature = env.signature();
+        push_shared(&self.signatures, &mut self.shared, signature);
+        push_signature(&mut self.signatures, signature);
+        push_size(&mut self.sizes, env.size());
         push_member(&mut self.list, env);
     }
 
@@ -85,7 +98,36 @@ impl SignedList {
         ensures { MatchOption result (IsCovered (HasMember self.now.list.items) (members env.now) → ⊥) (λ _. IsCovered (HasMember self.now.list.items) (members env.now)) }
     {
         let signature = env.signature();
-        for place in (0..self.list.len()).rev() {
+        for block in (0..self.shared.len()).rev() {
+            if !self.may_cover(block, signature) {
+                continue;
+            }
+            if let Some(place) = self.place_in_block(block, env, signature) {
+                return Some(place);
+            }
+        }
+        None
+    }
+
+    // Whether what all signatures of the block have is part of this one.
+    fn may_cover(&self, block: usize, signature: u64) -> bool
+        requires { block < length self.now.shared.items }
+        ensures { IsTrue result ↔ (bit_and (slice_index self.now.shared.items block) signature ≡ slice_index self.now.shared.items block) }
+    {
+        let shared = self.shared[block];
+        shared & signature == shared
+    }
+
+    // The place of one in the block that is a subset of the environment with this signature.
+    fn place_in_block(&self, block: usize, env: &Env, signature: u64) -> Option<usize>
+        requires signed { IsSigned self.now }
+        requires inside { block < length self.now.shared.items }
+        requires signature { signature ≡ signature_of env.now }
+        ensures { MatchOption result (NoneInBlock block self.now.list.items (members env.now)) (λ _. IsCovered (HasMember self.now.list.items) (members env.now)) }
+    {
+        let start = block * BLOCK;
+        let end = start + BLOCK.min(self.list.len() - start);
+        for place in (start..end).rev() {
             if self.is_subset_at(place, env, signature) {
                 return Some(place);
             }
@@ -128,15 +170,23 @@ impl SignedList {
         signature & self.signatures[place] == signature && env.is_subset(&self.list[place])
     }
 
-    // Writes the signatures anew, where some environments were dropped.
+    // Writes the signatures and the sizes anew, where some environments were dropped.
     fn sign(&mut self)
-        requires { vec_len self.old.list ≤ vec_len self.old.signatures }
+        requires signatures { vec_len self.old.list ≤ vec_len self.old.signatures }
+        requires shared { AreShared self.old.signatures.items self.old.shared.items }
+        requires sizes { vec_len self.old.list ≤ vec_len self.old.sizes }
         ensures same { self.new.list ≡ self.old.list }
         ensures signed { IsSigned self.new }
-        ensures room { vec_len self.old.signatures < vec_capacity self.old.signatures → vec_len self.new.signatures < vec_capacity self.new.signatures }
+        ensures signatures { vec_len self.old.signatures < vec_capacity self.old.signatures → vec_len self.new.signatures < vec_capacity self.new.signatures }
+        ensures shared { vec_len self.old.shared < vec_capacity self.old.shared → vec_len self.new.shared < vec_capacity self.new.shared }
+        ensures sizes { vec_len self.old.sizes < vec_capacity self.old.sizes → vec_len self.new.sizes < vec_capacity self.new.sizes }
     {
         self.signatures.truncate(self.list.len());
         write_signatures(&self.list, &mut self.signatures);
+        self.shared.truncate(blocks_of(self.signatures.len()));
+        write_shared(&self.signatures, &mut self.shared);
+        self.sizes.truncate(self.list.len());
+        write_sizes(&self.list, &mut self.sizes);
     }
 }
 
@@ -147,6 +197,62 @@ fn write_signatures(list: &[Env], signatures: &mut [u64])
 {
     for place in 0..list.len() {
         signatures[place] = list[place].signature();
+    }
+}
+
+// How many blocks so many signatures take.
+fn blocks_of(count: usize) -> usize
+    ensures { result ≡ blocks_of count }
+{
+    if count % BLOCK == 0 {
+        count / BLOCK
+    } else {
+        count / BLOCK + 1
+    }
+}
+
+// Leaves of the block what the signature has too. The first one of a block is the block's.
+fn share(shared: &mut [u64], place: usize, signature: u64)
+    requires { place / BLOCK < length shared.old }
+    ensures { shared.new ≡ slice_set shared.old (place / BLOCK) (if place % BLOCK == 0 then signature else bit_and (slice_index shared.old (place / BLOCK)) signature) }
+{
+    if place % BLOCK == 0 {
+        shared[place / BLOCK] = signature;
+    } else {
+        shared[place / BLOCK] &= signature;
+    }
+}
+
+// What all signatures of a block have is written for each block.
+fn write_shared(signatures: &[u64], shared: &mut [u64])
+    requires { length shared.old ≡ blocks_of (length signatures.now) }
+    ensures { AreShared signatures.now shared.new }
+{
+    for place in 0..signatures.len() {
+        share(shared, place, signatures[place]);
+    }
+}
+
+// The same with one signature more, which is to come behind the others.
+fn push_shared(signatures: &[u64], shared: &mut Vec<u64>, signature: u64)
+    requires shared { AreShared signatures.now shared.old.items }
+    requires room { vec_len shared.old < vec_capacity shared.old }
+    ensures { AreShared (signatures.now ++ signature ∷ []) shared.new.items }
+{
+    if signatures.len() % BLOCK == 0 {
+        push_signature(shared, signature);
+    } else {
+        share(shared, signatures.len(), signature);
+    }
+}
+
+// The size of each environment is written at its place.
+fn write_sizes(list: &[Env], sizes: &mut [u16])
+    requires { length list.now ≡ length sizes.old }
+    ensures { sizes.new ≡ map size_of list.now }
+{
+    for place in 0..list.len() {
+        sizes[place] = list[place].size();
     }
 }
 
@@ -166,6 +272,16 @@ fn push_signature(signatures: &mut Vec<u64>, signature: u64)
     ensures { signatures.new.items ≡ signatures.old.items ++ signature ∷ [] }
 {
     if signatures.push(signature).is_err() {
+        unreachable!();
+    }
+}
+
+// Puts the size behind the others.
+fn push_size(sizes: &mut Vec<u16>, size: u16)
+    requires { vec_len sizes.old < vec_capacity sizes.old }
+    ensures { sizes.new.items ≡ sizes.old.items ++ size ∷ [] }
+{
+    if sizes.push(size).is_err() {
         unreachable!();
     }
 }

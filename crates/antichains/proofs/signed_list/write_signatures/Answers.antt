@@ -1,13 +1,14 @@
 use Rattle.std.proofs.Common.{sym}
+use Rattle.environment_sets.specs.Signatures.{signature}
 use Rattle.antichains.proofs.Signing.{none_written, one_more_written, all_written}
 use Rattle.antichains.proofs.signed_list.write_signatures.Goals as goal
 
 pub loop-place-init : goal.loop-place-init
-loop-place-init c = none_written c.args.list.now c.args.signatures.now (sym c.requires)
+loop-place-init c = none_written signature c.args.list.now c.args.signatures.now (sym c.requires)
 
 pub loop-place-preserved : goal.loop-place-preserved
 loop-place-preserved c =
-    one_more_written c.args.list.now c.loop-place.signatures c.loop-place.place c.signature.result c.index-list-place.result c.loop-place.invariant c.loop-place-test.true c.index-list-place.is c.signature.ensures.word
+    one_more_written signature c.args.list.now c.loop-place.signatures c.loop-place.place c.signature.result c.index-list-place.result c.loop-place.invariant c.loop-place-test.true c.index-list-place.is c.signature.ensures.word
 
 pub returns : goal.returns
-returns c = all_written c.args.list.now c.loop-place.signatures c.loop-place.place c.loop-place-test.false c.loop-place.invariant
+returns c = all_written signature c.args.list.now c.loop-place.signatures c.loop-place.place c.loop-place-test.false c.loop-place.invariant

@@ -1,5 +1,6 @@
+use Rattle.environment_sets.specs.Signatures.{signature}
 use Rattle.antichains.proofs.Signing.{AreWritten}
 use Rattle.antichains.proofs.signed_list.write_signatures.Given as goal
 
 abbrev pub invariant-loop-place : goal.invariant-loop-place
-invariant-loop-place l = AreWritten l.list l.signatures l.place
+invariant-loop-place l = AreWritten signature l.list l.signatures l.place

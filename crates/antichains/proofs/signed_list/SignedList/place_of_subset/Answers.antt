@@ -1,29 +1,25 @@
-use Rattle.std.proofs.Common.{◌≡◌, ℕ, Some, get_or, true≢false, sym, ◌∙◌, ◌-◌, arith, length, ◌<◌}
-use Rattle.std.specs.List.{slice_get}
-use Rattle.std.proofs.lemmas.Option.{slice_get-get_or}
+use Rattle.std.proofs.Common.{◌≡◌, ℕ, true≢false, sym, ap, subst, ◌∙◌, ◌-◌, arith, length, get_or}
+use Rattle.std.proofs.lemmas.List.{length-map}
 use Rattle.environment_sets.specs.Sets.{◌⊆◌}
 use Rattle.environment_sets.specs.Members.{members}
-use Rattle.antichains.proofs.Signing.{none_behind_more, none_behind_all, none_at_all, not_covered, covered_by}
+use Rattle.environment_sets.specs.Signatures.{signature}
+use Rattle.antichains.proofs.Signing.{not_covered}
+use Rattle.antichains.proofs.Blocks.{IsPart, none_from_last_block, none_from_block_more, none_in_any_block, not_in_block}
 use Rattle.antichains.proofs.signed_list.SignedList.place_of_subset.Goals as goal
 
-pub loop-place-init : goal.loop-place-init
-loop-place-init c = none_behind_all (λ e. members e ⊆ members c.args.env.now) c.args.self.now.list.items c.len-place.result (omega (arith, c.args.self.now.list.ok.0, c.len-place.ensures))
+pub loop-block-init : goal.loop-block-init
+loop-block-init c =
+    let s = c.args.self.now in
+    let long : length s.signatures.items ≡ length s.list.items = ap length c.requires.signatures ∙ length-map s.list.items signature in
+    none_from_last_block (λ e. members e ⊆ members c.args.env.now) s.list.items _ (omega (arith, s.shared.ok.0, c.len-block.ensures, c.requires.shared.blocks, long))
 
-pub returns-then-is_subset_at : goal.returns-then-is_subset_at
-returns-then-is_subset_at c =
-    let es = c.args.self.now.list.items in
-    let i : ℕ = c.loop-place.place - 1 in
+pub loop-block-preserved-then-not-may_cover : goal.loop-block-preserved-then-not-may_cover
+loop-block-preserved-then-not-may_cover c =
     let env = c.args.env.now in
-    let low : i < length es = omega (arith, c.args.self.now.list.ok.0, c.len-place.ensures, c.loop-place-test.true, c.loop-place.auto.place) in
-    let at : slice_get es i ≡ Some (get_or es i env) = slice_get-get_or es i env low in
-    covered_by env es i (get_or es i env) at ((c.is_subset_at.ensures (get_or es i env) at).0 c.if-is_subset_at.true)
+    none_from_block_more (λ e. members e ⊆ members env) c.args.self.now.list.items c.loop-block.block c.loop-block-test.true c.loop-block.invariant (not_in_block c.args.self.now env (c.loop-block.block - 1) c.requires (λ part. true≢false (sym (c.may_cover.ensures.1 (subst (λ (w : ℕ). IsPart (get_or c.args.self.now.shared.items (c.loop-block.block - 1) 0) w) (sym c.signature-signature.ensures.word) part)) ∙ c.if-not-may_cover.true)))
 
-pub loop-place-preserved : goal.loop-place-preserved
-loop-place-preserved c =
-    none_behind_more (λ e. members e ⊆ members c.args.env.now) c.args.self.now.list.items c.loop-place.place c.loop-place-test.true c.loop-place.invariant
-    (λ e at within. true≢false (sym ((c.is_subset_at.ensures e at).1 within) ∙ c.if-is_subset_at.false))
+pub loop-block-preserved : goal.loop-block-preserved
+loop-block-preserved c = none_from_block_more (λ e. members e ⊆ members c.args.env.now) c.args.self.now.list.items c.loop-block.block c.loop-block-test.true c.loop-block.invariant c.in_default.ensures
 
 pub returns : goal.returns
-returns c =
-    let es = c.args.self.now.list.items in
-    not_covered c.args.env.now es (none_at_all (λ e. members e ⊆ members c.args.env.now) es c.loop-place.place c.loop-place-test.false c.loop-place.invariant)
+returns c = not_covered c.args.env.now c.args.self.now.list.items (none_in_any_block (λ e. members e ⊆ members c.args.env.now) c.args.self.now.list.items c.loop-block.block c.loop-block-test.false c.loop-block.invariant)

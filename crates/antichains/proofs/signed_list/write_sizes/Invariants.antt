@@ -1,0 +1,6 @@
+use Rattle.antichains.specs.Signed.{size_of}
+use Rattle.antichains.proofs.Signing.{AreWritten}
+use Rattle.antichains.proofs.signed_list.write_sizes.Given as goal
+
+abbrev pub invariant-loop-place : goal.invariant-loop-place
+invariant-loop-place l = AreWritten size_of l.list l.sizes l.place
