@@ -87,6 +87,9 @@ impl Shelf {
     fn keep(&mut self, nodes: &Nodes, slot: u16)
         ensures { self.new ≡ filter (is_still_met nodes.now.list.items slot) self.old }
     {
+        if self.list.is_empty() {
+            return;
+        }
         self.list.retain(|inferred| is_kept(inferred, nodes, slot));
     }
 }
