@@ -151,7 +151,7 @@ module _ (slots : List (Option Assumption)) (w : Update) (rest : IsAtRest (befor
   Met = IsIn (facts_of w.nodes.list.items)
 
   abbrev Old : RecordedInference → Type 0
-  Old = RecordedIn w.recorded.items
+  Old = RecordedIn w.recorded
 
   more : HasOneMore ℕ S (stock slots) w.slot
   more = one_more_slot slots w.slot
@@ -182,7 +182,7 @@ module _ (slots : List (Option Assumption)) (w : Update) (rest : IsAtRest (befor
     alone : (E : Set ℕ) → IsTrue (E w.slot) → IsCovered (DueIn (First ∷ []) (Some f)) E
     alone E h = (members env, (First, inl refl, refl, refl), only_inside slots w.slot env is E h)
 
-    first_due : Holds slots w.slot w.nodes w.recorded.items (First ∷ []) []
+    first_due : Holds slots w.slot w.nodes w.recorded (First ∷ []) []
     first_due =
         let was : IsPropagating (stock slots) w.slot Met (KeptIn w.nodes) Old (DueIn (First ∷ [])) NoItem =
         start_reading S (stock slots) w.slot more (decide w.slot) Met (KeptIn w.nodes) Old rest.up_to_date.settled rest.up_to_date.are rest.up_to_date.were_met (DueIn (First ∷ []))
@@ -190,13 +190,13 @@ module _ (slots : List (Option Assumption)) (w : Update) (rest : IsAtRest (befor
         whole.reordered (stock slots) w.slot Met (KeptIn w.nodes) Old (DueIn (First ∷ [])) NoItem was (DueIn (First ∷ [])) (WaitsIn [])
         (λ t E. ((λ (k : DueIn (First ∷ []) t E). k), (λ (k : DueIn (First ∷ []) t E). k))) (λ j g m. ((λ (h : ⊥). absurd h), (λ (h : WaitsIn [] j g m). h.1)))
 
-    pub reading_begins : (dues : List Insertion) → dues ≡ w.due.items ++ First ∷ [] → Holds slots w.slot w.nodes w.recorded.items dues w.agenda
+    pub reading_begins : (dues : List Insertion) → dues ≡ w.due.items ++ First ∷ [] → Holds slots w.slot w.nodes w.recorded dues w.agenda
     reading_begins dues e = rw (e, rest.none_due, rest.nothing_waits) first_due
 
   -- a component: its inferences are recorded, and what they lead to is due or waits
-  module _ (part : List Instance) (works : stock slots w.slot ≡ Some (Part part)) (all found : List Inferred) (made : AreMadeBy slots (facts_of w.nodes.list.items) w.slot all) (needed : AreNeeded w.recorded.items all found) where
+  module _ (part : List Instance) (works : stock slots w.slot ≡ Some (Part part)) (all found : List Inferred) (made : AreMadeBy slots (facts_of w.nodes.list.items) w.slot all) (needed : AreNeeded w.recorded all found) where
     abbrev New : List Inferred
-    New = w.recorded.items ++ found
+    New = w.recorded ++ found
 
     abbrev Dues : List Insertion
     Dues = map (due_with env) (filter goes_from_none found)
@@ -205,25 +205,25 @@ module _ (slots : List (Option Assumption)) (w : Update) (rest : IsAtRest (befor
     Items = items_from w.nodes.list.items found
 
     front : (j : RecordedInference) → Old j → RecordedIn New j
-    front j r = (r.0, IsIn-left w.recorded.items found r.0 r.1, r.2)
+    front j r = (r.0, IsIn-left w.recorded found r.0 r.1, r.2)
 
     still : (to : Target) (maker : Option ℕ) (known : Fact → Type 0) → HasInference Old to maker known → HasInference (RecordedIn New) to maker known
     still to maker known j = (j.0, front j.0 j.1, j.2, j.3, j.4)
 
     now : (to : Target) (maker : Option ℕ) (known : Fact → Type 0) → HasInference (RecordedIn all) to maker known → HasInference (RecordedIn New) to maker known
-    now = said_now w.recorded.items all found needed
+    now = said_now w.recorded all found needed
 
     makes : (i : Inferred) → IsIn found i → i.maker ≡ Some w.slot
     makes i h = made.maker i (needed.of_found i h)
 
     split : (j : RecordedInference) → RecordedIn New j → Old j ⊎ RecordedIn found j
-    split j r = elim (IsIn-append w.recorded.items found r.0 r.1) [ inl o ↦ inl (r.0, o, r.2) | inr n ↦ inr (r.0, n, r.2) ]
+    split j r = elim (IsIn-append w.recorded found r.0 r.1) [ inl o ↦ inl (r.0, o, r.2) | inr n ↦ inr (r.0, n, r.2) ]
 
     now_recorded : AreRecorded (stock slots) Met All (RecordedIn New)
     now_recorded = record {
       leads = λ j r. elim (split j r) [
         | inl o ↦ leads_more S (stock slots) w.slot more j.from j.maker j.to (rest.up_to_date.are.leads j o)
-        | inr n ↦ made.are.leads j (was_found w.recorded.items all found needed j n)
+        | inr n ↦ made.are.leads j (was_found w.recorded all found needed j n)
       ];
       forced = λ k p instance known q v c named of_part _ held at forces. elim (decide w.slot k) [
         | inl e ↦ now _ _ _ (made.are.forced k p instance known q v c named of_part (ap (λ (x : ℕ). Some x) e) held at forces)
@@ -244,7 +244,7 @@ module _ (slots : List (Option Assumption)) (w : Update) (rest : IsAtRest (befor
 
     waiting : IsWaitingSound (stock slots) (RecordedIn New) (WaitsIn Items)
     waiting = record {
-      inference = λ j f E x. (x.0.inferred, IsIn-right w.recorded.items found x.0.inferred (of_items w.nodes.list.items found x.0 x.1).found, x.2);
+      inference = λ j f E x. (x.0.inferred, IsIn-right w.recorded found x.0.inferred (of_items w.nodes.list.items found x.0 x.1).found, x.2);
       antecedent = λ j f E x.
           let it : IsItemFrom w.nodes.list.items found x.0 = of_items w.nodes.list.items found x.0 x.1 in
           let P : RecordedInference → Type 0 = λ i. IsIn i.from f in

@@ -245,23 +245,23 @@ module _ (old new : Update) (slot : ℕ) (gone : HasForgotten slot old new) (onc
   abbrev Still : Inferred → Bool
   Still = is_still_met New slot
 
-  recorded_was : (j : RecordedInference) → RecordedIn new.recorded.items j → RecordedIn old.recorded.items j × (j.maker ≡ Some slot → ⊥)
+  recorded_was : (j : RecordedInference) → RecordedIn new.recorded j → RecordedIn old.recorded j × (j.maker ≡ Some slot → ⊥)
   recorded_was j r =
-      let there : IsIn old.recorded.items r.0 × IsTrue (Still r.0) = IsIn-filter Still old.recorded.items r.0 (subst (λ (l : List Inferred). IsIn l r.0) gone.recorded r.1) in
+      let there : IsIn old.recorded r.0 × IsTrue (Still r.0) = IsIn-filter Still old.recorded r.0 (subst (λ (l : List Inferred). IsIn l r.0) gone.recorded r.1) in
       ((r.0, there.0, r.2), λ e. of_still New slot r.0 there.1 (ap (λ (x : RecordedInference). x.maker) r.2 ∙ e))
 
-  recorded_stays : (j : RecordedInference) → RecordedIn old.recorded.items j → (j.maker ≡ Some slot → ⊥) → ((f : Fact) → IsIn j.from f → IsIn (facts_of New) f) → RecordedIn new.recorded.items j
+  recorded_stays : (j : RecordedInference) → RecordedIn old.recorded j → (j.maker ≡ Some slot → ⊥) → ((f : Fact) → IsIn j.from f → IsIn (facts_of New) f) → RecordedIn new.recorded j
   recorded_stays j r other all =
       let P : RecordedInference → Type 0 = λ x. (f : Fact) → IsIn x.from f → IsIn (facts_of New) f in
       let is : IsTrue (Still r.0) = still_of New slot r.0 (λ e. other (sym (ap (λ (x : RecordedInference). x.maker) r.2) ∙ e)) (subst P (sym r.2) all) in
-      (r.0, subst (λ (l : List Inferred). IsIn l r.0) (sym gone.recorded) (IsIn-kept Still old.recorded.items r.0 r.1 is), r.2)
+      (r.0, subst (λ (l : List Inferred). IsIn l r.0) (sym gone.recorded) (IsIn-kept Still old.recorded r.0 r.1 is), r.2)
 
   module _ (S R : Stock ℕ) (free : S slot ≡ None) (others : (k : ℕ) → k ≢ slot → S k ≡ R k) (rest : IsAtRest R old) where
     pub forgotten : IsAtRest S new
     forgotten = record {
       up_to_date = record {
         settled = settled_without S R slot free others (KeptIn old.nodes) (KeptIn new.nodes) drops_new rest.up_to_date.settled;
-        are = recorded_without S R slot free others (IsIn (facts_of Old)) (IsIn (facts_of New)) (RecordedIn old.recorded.items) (RecordedIn new.recorded.items) met_before recorded_was recorded_stays rest.up_to_date.are;
+        are = recorded_without S R slot free others (IsIn (facts_of Old)) (IsIn (facts_of New)) (RecordedIn old.recorded) (RecordedIn new.recorded) met_before recorded_was recorded_stays rest.up_to_date.are;
         were_met = λ f E k. member_met New f E k;
         once = once_new;
       };

@@ -4,6 +4,7 @@ pub mod Puts
 pub mod Changed
 pub mod Families
 pub mod Picks
+pub mod Shelves
 pub mod Needed
 pub mod Holding
 pub mod Walked

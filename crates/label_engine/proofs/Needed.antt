@@ -123,3 +123,7 @@ module _ (recorded found needed : List Inferred) (are : AreNeeded recorded found
     refuted = λ k part instance known named of_part meant held refutes. said_now _ _ _ (new.refuted k part instance known named of_part meant held refutes);
     two_words = λ c v w differ meant low high. said_now _ _ _ (new.two_words c v w differ meant low high);
   }
+
+-- one that is recorded says as much, whatever is to be recorded
+pub said_still : (recorded needed : List Inferred) (i : Inferred) → IsSaid recorded [] i → IsSaid recorded needed i
+said_still recorded needed i (j, there, says) = (j, elim there [ inl r ↦ inl r | inr bad ↦ absurd bad ], says)

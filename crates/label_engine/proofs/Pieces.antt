@@ -74,7 +74,7 @@ survives_same w = record {
   agrees = λ t E _. ((λ (k : KeptIn w.nodes t E). k), (λ (k : KeptIn w.nodes t E). k));
   same_slot = refl;
   added = [];
-  recorded = sym (append-nil w.recorded.items);
+  recorded = sym (append-nil w.recorded);
   newly = [];
   met = sym (append-nil (facts_of w.nodes.list.items));
   once = λ (d : AreDistinct (facts_of w.nodes.list.items)). d;
@@ -88,21 +88,21 @@ pub agrees_on : (a b c : Update) → AgreesWith a b → b.slot ≡ a.slot → Ag
 agrees_on a b c first same then = agree_trans a.slot (KeptIn a.nodes) (KeptIn b.nodes) (KeptIn c.nodes) first (let P : ℕ → Type 0 = λ s. AgreeWithout s (KeptIn b.nodes) (KeptIn c.nodes) in subst P same then)
 
 pub survives_on :
-    (a b c : Update) → Survives a b → AgreesWith b c → c.slot ≡ b.slot → (added : List Inferred) → c.recorded.items ≡ b.recorded.items ++ added
+    (a b c : Update) → Survives a b → AgreesWith b c → c.slot ≡ b.slot → (added : List Inferred) → c.recorded ≡ b.recorded ++ added
     → (newly : List Fact) → facts_of c.nodes.list.items ≡ facts_of b.nodes.list.items ++ newly
     → (AreDistinct (facts_of b.nodes.list.items) → AreDistinct (facts_of c.nodes.list.items)) → Survives a c
 survives_on a b c first agrees slot added recorded newly met once = record {
   agrees = agrees_on a b c first.agrees first.same_slot agrees;
   same_slot = slot ∙ first.same_slot;
   added = first.added ++ added;
-  recorded = recorded ∙ (ap (λ l. l ++ added) first.recorded ∙ append_assoc a.recorded.items first.added added);
+  recorded = recorded ∙ (ap (λ l. l ++ added) first.recorded ∙ append_assoc a.recorded first.added added);
   newly = first.newly ++ newly;
   met = met ∙ (ap (λ l. l ++ newly) first.met ∙ append_assoc (facts_of a.nodes.list.items) first.newly newly);
   once = λ (d : AreDistinct (facts_of a.nodes.list.items)). once (first.once d);
 }
 
 -- a change of labels alone
-pub survives_then : (a b c : Update) → Survives a b → AgreesWith b c → c.slot ≡ b.slot → c.recorded.items ≡ b.recorded.items → facts_of c.nodes.list.items ≡ facts_of b.nodes.list.items → Survives a c
+pub survives_then : (a b c : Update) → Survives a b → AgreesWith b c → c.slot ≡ b.slot → c.recorded ≡ b.recorded → facts_of c.nodes.list.items ≡ facts_of b.nodes.list.items → Survives a c
 survives_then a b c first agrees slot recorded met = record {
   agrees = agrees_on a b c first.agrees first.same_slot agrees;
   same_slot = slot ∙ first.same_slot;
@@ -134,8 +134,8 @@ module _ (slots : List (Option Assumption)) where
     pub ready_now_met : (f : Fact) (old new : Update) → DueAlso slots due old → due.target ≡ Some f → (IsIn (facts_of old.nodes.list.items) f → ⊥) → AreKeptAlike old new → HasMet slots f old new → IsReady slots due old new
     ready_now_met f old new was at unmet same e = record {
       due_also =
-          let P : Family → Type 0 = λ K. IsPropagating (stock slots) new.slot (IsIn (facts_of new.nodes.list.items)) K (RecordedIn new.recorded.items) (DueIn (due ∷ new.due.items)) (WaitsIn new.agenda) in
-          subst P (sym (same_family old.nodes new.nodes same.labels same.nogoods)) (rw (e.slot, e.met, e.recorded, e.due, e.agenda) (holds_met slots old.slot old.nodes old.recorded.items due old.due.items old.agenda was f unmet e.found e.needed e.are_found e.are_needed));
+          let P : Family → Type 0 = λ K. IsPropagating (stock slots) new.slot (IsIn (facts_of new.nodes.list.items)) K (RecordedIn new.recorded) (DueIn (due ∷ new.due.items)) (WaitsIn new.agenda) in
+          subst P (sym (same_family old.nodes new.nodes same.labels same.nogoods)) (rw (e.slot, e.met, e.recorded, e.due, e.agenda) (holds_met slots old.slot old.nodes old.recorded due old.due.items old.agenda was f unmet e.found e.needed e.are_found e.are_needed));
       were_met = λ g same_target. rw e.met (let both : Some f ≡ Some g = sym at ∙ same_target in let gf : f ≡ g = cc in subst (IsIn (facts_of old.nodes.list.items ++ f ∷ [])) gf (IsIn-right (facts_of old.nodes.list.items) (f ∷ []) f (inl refl)));
       labels_same = same.labels;
       nogoods_same = same.nogoods;
@@ -156,7 +156,7 @@ module _ (slots : List (Option Assumption)) where
     }
 
     pub carries_reached : (old : Update) → DueAlso slots due old → IsReached (KeptIn old.nodes) due.target (members due.env) → CarriesOn slots old old
-    carries_reached old was r = carries_same old (holds_reached slots old.slot old.nodes old.recorded.items due old.due.items old.agenda was r)
+    carries_reached old was r = carries_same old (holds_reached slots old.slot old.nodes old.recorded due old.due.items old.agenda was r)
 
     module _ (old mid new : Update) (ready : IsReady slots due old mid) (out : IsReached (KeptIn old.nodes) due.target (members due.env) → ⊥) where
       pub out_mid : IsReached (KeptIn mid.nodes) due.target (members due.env) → ⊥
@@ -164,15 +164,15 @@ module _ (slots : List (Option Assumption)) where
 
       module _ (put : IsPutThere due mid new) where
         pub agrees_put_there : AgreesWith mid new
-        agrees_put_there = agrees_put slots mid.slot mid.nodes mid.recorded.items due mid.due.items mid.agenda ready.due_also out_mid ready.were_met new.nodes put.put
+        agrees_put_there = agrees_put slots mid.slot mid.nodes mid.recorded due mid.due.items mid.agenda ready.due_also out_mid ready.were_met new.nodes put.put
 
         pub carries_put : TargetFits due.target → length new.agenda < 2 ^ 64 → CarriesOn slots old new
         carries_put fits few = record {
-          propagates = rw (put.slot, put.met, put.recorded, put.due_same, put.agenda) (holds_put slots mid.slot mid.nodes mid.recorded.items due mid.due.items mid.agenda ready.due_also out_mid ready.were_met new.nodes put.put);
+          propagates = rw (put.slot, put.met, put.recorded, put.due_same, put.agenda) (holds_put slots mid.slot mid.nodes mid.recorded due mid.due.items mid.agenda ready.due_also out_mid ready.were_met new.nodes put.put);
           agrees = agrees_on old mid new (agrees_same old mid (record { labels = ready.labels_same; nogoods = ready.nogoods_same })) ready.same_slot agrees_put_there;
           same_slot = put.slot ∙ ready.same_slot;
           no_more =
-              let less : uncovered (reaches new.nodes) < uncovered (reaches mid.nodes) = fewer_uncovered slots mid.slot mid.nodes mid.recorded.items due mid.due.items mid.agenda ready.due_also out_mid ready.were_met new.nodes put.put fits in
+              let less : uncovered (reaches new.nodes) < uncovered (reaches mid.nodes) = fewer_uncovered slots mid.slot mid.nodes mid.recorded due mid.due.items mid.agenda ready.due_also out_mid ready.were_met new.nodes put.put fits in
               let less_old : uncovered (reaches new.nodes) < uncovered (reaches old.nodes) = (let P : (Target → Set ℕ → Bool) → Type 0 = λ r. uncovered (reaches new.nodes) < uncovered r in subst P (same_test old.nodes mid.nodes ready.labels_same ready.nogoods_same) less) in
               omega (arith, load_falls (uncovered (reaches new.nodes)) (uncovered (reaches old.nodes)) (length new.agenda) (length old.agenda) less_old few);
         }
@@ -234,7 +234,7 @@ pub at_rest :
     (slots : List (Option Assumption)) (w : Update) → Propagates slots w → w.due.items ≡ [] → w.agenda ≡ [] → AreDistinct (facts_of w.nodes.list.items) → IsAtRest (stock slots) w
 at_rest slots w was none_due nothing_waits once = record {
   up_to_date = record {
-    settled = holds_ended slots w.slot w.nodes w.recorded.items (rw (← none_due, ← nothing_waits) was);
+    settled = holds_ended slots w.slot w.nodes w.recorded (rw (← none_due, ← nothing_waits) was);
     are = was.are;
     were_met = was.were_met;
     once = once;

@@ -18,7 +18,7 @@ use Rattle.label_engine.specs.Update.{before, AreUpToDate, IsAtRest, IsTakenBack
 use Rattle.assumption_slots.specs.Slots.{stock}
 
 pub kept_exact : (slots : List (Option Assumption)) (w : Update) → IsAtRest (stock slots) w → IsExact (seen slots w.nodes)
-kept_exact slots w k = is_exact slots w.nodes w.recorded.items k.up_to_date (seen slots w.nodes) refl
+kept_exact slots w k = is_exact slots w.nodes w.recorded k.up_to_date (seen slots w.nodes) refl
 
 abbrev Slots : Type 0
 Slots = List (Option Assumption)
@@ -68,7 +68,7 @@ module _ (slots : Slots) (slot : ℕ) (what : Assumption) (free : stock slots sl
 
     pub begun : (now : Slots) → now ≡ Now → IsAtRest (before now slot) Begun
     begun now e =
-        let P : Stock ℕ → Type 0 = λ S. AreUpToDate S old.nodes old.recorded.items in
+        let P : Stock ℕ → Type 0 = λ S. AreUpToDate S old.nodes old.recorded in
         record { up_to_date = subst P (sym (ap (λ l. before l slot) e ∙ before_is slots slot (Some what) free)) kept.up_to_date; none_due = kept.none_due; nothing_waits = kept.nothing_waits }
 
     -- memory ran out: what is kept is kept as it was

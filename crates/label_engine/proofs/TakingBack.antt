@@ -46,9 +46,9 @@ member_met (n ∷ nodes) f E h =
 
 module _
     (slots : List (Option Assumption)) (w mid new : Update) (rest : IsAtRest (before slots w.slot) w) (s : Survives w mid)
-    (met recorded : ℕ) (met_is : met ≡ length w.nodes.list.items) (recorded_is : recorded ≡ length w.recorded.items)
+    (met recorded : ℕ) (met_is : met ≡ length w.nodes.list.items) (recorded_is : recorded ≡ length w.recorded)
     (labels_new : EachDrops (λ F. IsTrue (F mid.slot)) (take met mid.nodes.list.items) new.nodes.list.items) (nogoods_new : Drops (HasMember mid.nodes.nogoods) (HasMember new.nodes.nogoods) (λ F. IsTrue (F mid.slot)))
-    (recorded_new : new.recorded.items ≡ take recorded mid.recorded.items) (due_new : new.due.items ≡ []) (agenda_new : new.agenda ≡ []) (slot_new : new.slot ≡ mid.slot)
+    (recorded_new : new.recorded ≡ take recorded mid.recorded) (due_new : new.due.items ≡ []) (agenda_new : new.agenda ≡ []) (slot_new : new.slot ≡ mid.slot)
   where
     kept_lacks : (t : Target) (E : Set ℕ) → KeptIn w.nodes t E → IsFalse (E w.slot)
     kept_lacks None E k = lacks slots w.slot E (rest.up_to_date.settled.nogood_environments E k)
@@ -65,8 +65,8 @@ module _
     met_same : facts_of new.nodes.list.items ≡ facts_of w.nodes.list.items
     met_same = dropped_facts (λ F. IsTrue (F mid.slot)) Front new.nodes.list.items labels_new ∙ front_facts
 
-    recorded_same : new.recorded.items ≡ w.recorded.items
-    recorded_same = recorded_new ∙ (ap (λ l. take recorded l) s.recorded ∙ (ap (λ n. take n (w.recorded.items ++ s.added)) recorded_is ∙ take-append_seam w.recorded.items s.added))
+    recorded_same : new.recorded ≡ w.recorded
+    recorded_same = recorded_new ∙ (ap (λ l. take recorded l) s.recorded ∙ (ap (λ n. take n (w.recorded ++ s.added)) recorded_is ∙ take-append_seam w.recorded s.added))
 
     not_there : (E : Set ℕ) → IsFalse (E w.slot) → IsTrue (E mid.slot) → ⊥
     not_there E out h = true≢false (sym h ∙ (ap E s.same_slot ∙ out))

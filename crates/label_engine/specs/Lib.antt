@@ -1,4 +1,5 @@
 pub mod Nodes
+pub mod Records
 pub mod Update
 pub mod Engine
 pub mod Questions

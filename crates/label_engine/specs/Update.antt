@@ -84,15 +84,15 @@ Holds slots slot nodes recorded due agenda = IsPropagating (stock slots) slot (I
 
 -- it holds of the update
 abbrev pub Propagates : List (Option Assumption) → Update → Type 0
-Propagates slots u = Holds slots u.slot u.nodes u.recorded.items u.due.items u.agenda
+Propagates slots u = Holds slots u.slot u.nodes u.recorded u.due.items u.agenda
 
 -- it holds with one insertion more that is due
 abbrev pub DueAlso : List (Option Assumption) → Insertion → Update → Type 0
-DueAlso slots due u = Holds slots u.slot u.nodes u.recorded.items (due ∷ u.due.items) u.agenda
+DueAlso slots due u = Holds slots u.slot u.nodes u.recorded (due ∷ u.due.items) u.agenda
 
 -- it holds with one inference more that waits
 abbrev pub WaitsAlso : List (Option Assumption) → Pending → Update → Type 0
-WaitsAlso slots item u = Holds slots u.slot u.nodes u.recorded.items u.due.items (item ∷ u.agenda)
+WaitsAlso slots item u = Holds slots u.slot u.nodes u.recorded u.due.items (item ∷ u.agenda)
 
 -- the inference, with an environment of one of its facts
 abbrev pub item_at : Fact → Env → Inferred → Pending
@@ -205,7 +205,7 @@ pub record AreUpToDate (S : Stock ℕ) (nodes : Nodes) (recorded : List Inferred
 
 -- all is up to date with the stock, nothing is due and nothing waits
 pub record IsAtRest (S : Stock ℕ) (u : Update) : Type 0 where
-  pub up_to_date : AreUpToDate S u.nodes u.recorded.items
+  pub up_to_date : AreUpToDate S u.nodes u.recorded
   pub none_due : u.due.items ≡ []
   pub nothing_waits : u.agenda ≡ []
 
@@ -240,7 +240,7 @@ pub record Survives (old new : Update) : Type 0 where
   pub agrees : AgreesWith old new
   pub same_slot : new.slot ≡ old.slot
   pub added : List Inferred
-  pub recorded : new.recorded.items ≡ old.recorded.items ++ added
+  pub recorded : new.recorded ≡ old.recorded ++ added
   pub newly : List Fact
   pub met : facts_of new.nodes.list.items ≡ facts_of old.nodes.list.items ++ newly
   pub once : AreDistinct (facts_of old.nodes.list.items) → AreDistinct (facts_of new.nodes.list.items)
@@ -249,8 +249,8 @@ pub record Survives (old new : Update) : Type 0 where
 pub record IsPutThere (due : Insertion) (old new : Update) : Type 0 where
   pub put : IsPut due.target (members due.env) (KeptIn old.nodes) (KeptIn new.nodes)
   pub met : facts_of new.nodes.list.items ≡ facts_of old.nodes.list.items
-  pub agenda : new.agenda ≡ old.agenda ++ items_for due old.recorded.items
-  pub recorded : new.recorded.items ≡ old.recorded.items
+  pub agenda : new.agenda ≡ old.agenda ++ items_for due old.recorded
+  pub recorded : new.recorded ≡ old.recorded
   pub due_same : new.due.items ≡ old.due.items
   pub slot : new.slot ≡ old.slot
 
@@ -264,8 +264,8 @@ pub record HasMet (slots : List (Option Assumption)) (f : Fact) (old new : Updat
   pub found : List Inferred
   pub are_found : AreFound slots (facts_of old.nodes.list.items) f found
   pub needed : List Inferred
-  pub are_needed : AreNeeded old.recorded.items found needed
-  pub recorded : new.recorded.items ≡ old.recorded.items ++ needed
+  pub are_needed : AreNeeded old.recorded found needed
+  pub recorded : new.recorded ≡ old.recorded ++ needed
   pub met : facts_of new.nodes.list.items ≡ facts_of old.nodes.list.items ++ f ∷ []
   pub due : new.due.items ≡ old.due.items
   pub agenda : new.agenda ≡ old.agenda
@@ -300,6 +300,6 @@ is_still_met nodes slot i = not (is_made_at slot i.maker) && (is_met_or_none nod
 pub record HasForgotten (slot : ℕ) (old new : Update) : Type 0 where
   pub labels : AreSupported (λ F. IsTrue (F slot)) old.nodes.list.items new.nodes.list.items
   pub nogoods : Drops (HasMember old.nodes.nogoods) (HasMember new.nodes.nogoods) (λ F. IsTrue (F slot))
-  pub recorded : new.recorded.items ≡ filter (is_still_met new.nodes.list.items slot) old.recorded.items
+  pub recorded : new.recorded ≡ filter (is_still_met new.nodes.list.items slot) old.recorded
   pub due_same : new.due.items ≡ old.due.items
   pub agenda_same : new.agenda ≡ old.agenda

@@ -12,6 +12,7 @@ ghost use Rattle.assumption_slots.specs.Slots.{stock};
 ghost use Rattle.label_engine.specs.Engine.{label_at, Remembers, Forgets, AreAllTaken, IsAsBefore};
 
 use crate::nodes::{Nodes, is_same_fact};
+use crate::records::Records;
 use crate::update::Update;
 use assumption_slots::Slots;
 use circuit_model::{Assumption, Fact};
@@ -71,6 +72,7 @@ impl Engine {
         ensures exact { IfOk result (λ e. AreExact (stock e.slots) (label_at e) (HasMember e.nogoods)) }
     {
         let slots = Slots::open(alloc)?;
+        let recorded = Records::open(alloc)?;
         let nodes = Nodes {
             list: Vec::new(alloc),
             nogoods: Nogoods::new(alloc),
@@ -78,7 +80,7 @@ impl Engine {
         let update = Update {
             slot: 0,
             nodes,
-            recorded: Vec::new(alloc),
+            recorded,
             due: Vec::new(alloc),
             agenda: Agenda::new(alloc),
         };
@@ -137,7 +139,7 @@ impl Engine {
         ensures slot { MatchOption result ((k : ℕ) → stock self.now.slots k ≡ Some (Reading fact) → ⊥) (λ k. stock self.now.slots k ≡ Some (Reading fact)) }
         ensures below { IfSome result (λ k. k < SLOTS) }
     {
-        for slot in 0..self.slots.count() as u16 {
+        for slot in 0..self.slots.end() as u16 {
             if stands_for(&self.slots, slot, &fact) {
                 return Some(slot);
             }

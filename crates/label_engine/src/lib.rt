@@ -5,6 +5,7 @@ mod engine;
 mod nodes;
 mod questions;
 mod recording;
+mod records;
 mod update;
 
 pub use engine::{Engine, Stop};

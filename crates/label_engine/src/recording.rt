@@ -1,11 +1,12 @@
 // Which inferences are recorded. Where one leads to the same as another, by the same maker and from no further fact, the
 // other is not needed: whatever the other gives, it gives too.
 
-ghost use Rattle.std.specs.Prelude.{◌≡◌, ℕ, ◌++◌, IfOk, Some, take};
+ghost use Rattle.std.specs.Prelude.{◌≡◌, ℕ, ◌++◌, [], IfOk, IsTrue, Some, take};
 ghost use Rattle.std.specs.List.{list_any};
-ghost use Rattle.label_engine.specs.Update.{is_same_target, is_same_maker, goes_from, goes_from_any, says_as_much, AreNeeded, IsNeededOrSaid};
+ghost use Rattle.label_engine.specs.Update.{is_same_target, is_same_maker, goes_from, goes_from_any, says_as_much, AreNeeded, IsSaid, IsNeededOrSaid};
 
 use crate::nodes::is_same_fact;
+use crate::records::Records;
 use circuit_model::Fact;
 use inference_search::Inferred;
 use std::alloc::{AllocError, Global};
@@ -67,15 +68,33 @@ fn is_said(by: &[Inferred], inferred: &Inferred) -> bool
     by.iter().any(|other| says_as_much(other, inferred))
 }
 
+// Whether one that is recorded near the fact, if there is one, says as much.
+fn is_said_near(recorded: &Records, fact: &Option<Fact>, inferred: &Inferred) -> bool
+    ensures { IsTrue result → IsSaid recorded.now [] inferred.now }
+{
+    match fact {
+        Some(fact) => is_said(recorded.near(fact), inferred),
+        None => false,
+    }
+}
+
+// Whether one that is recorded, from some of its facts, says as much.
+fn is_recorded(recorded: &Records, inferred: &Inferred) -> bool
+    ensures { IsTrue result → IsSaid recorded.now [] inferred.now }
+{
+    is_said_near(recorded, &inferred.first, inferred)
+        || is_said_near(recorded, &inferred.second, inferred)
+}
+
 // The inference is needed too, where none says as much.
 fn add_needed(
     needed: &mut Vec<Inferred>,
-    recorded: &[Inferred],
+    recorded: &Records,
     inferred: &Inferred,
 ) -> Result<(), AllocError>
     ensures { IfOk result (λ _. IsNeededOrSaid recorded.now inferred.now needed.old.items needed.new.items) }
 {
-    if is_said(recorded, inferred) {
+    if is_recorded(recorded, inferred) {
         return Ok(());
     }
     if is_said(needed, inferred) {
@@ -88,7 +107,7 @@ fn add_needed(
 /// Of what was found, what is to be recorded.
 pub fn needed_of(
     alloc: Global,
-    recorded: &[Inferred],
+    recorded: &Records,
     found: &[Inferred],
 ) -> Result<Vec<Inferred>, AllocError>
     ensures { IfOk result (λ needed. AreNeeded recorded.now found.now needed.items) }
@@ -101,9 +120,9 @@ pub fn needed_of(
 }
 
 /// Records what was found. After an error a front of what was found is recorded.
-pub fn record_all(recorded: &mut Vec<Inferred>, found: &[Inferred]) -> Result<(), AllocError>
-    ensures ok { IfOk result (λ _. recorded.new.items ≡ recorded.old.items ++ found.now) }
-    ensures partly { (k : ℕ) × (recorded.new.items ≡ recorded.old.items ++ take k found.now) }
+pub fn record_all(recorded: &mut Records, found: &[Inferred]) -> Result<(), AllocError>
+    ensures ok { IfOk result (λ _. recorded.new ≡ recorded.old ++ found.now) }
+    ensures partly { (k : ℕ) × (recorded.new ≡ recorded.old ++ take k found.now) }
 {
     for inferred in found {
         recorded.push(*inferred)?;

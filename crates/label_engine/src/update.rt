@@ -12,11 +12,12 @@ ghost use Rattle.circuit_model.specs.declared.model.Assumption.TheVariants.{Part
 ghost use Rattle.propagation.specs.Uncovered.{Fits, TargetFits};
 ghost use Rattle.propagation.specs.Propagating.{IsReached};
 ghost use Rattle.label_engine.specs.Nodes.{facts_of, KeptIn, IsMet, EachDrops};
-ghost use Rattle.label_engine.specs.Update.{item_at, items_at, items_to, ends_in, some_fact, goes_from_none, due_with, items_with, items_from, other_fact, made_by, HasUnions, HasUnionsWith, HasMet, AreKeptAlike, IsPutThere, Propagates, DueAlso, WaitsAlso, CarriesOn, IsReady, BeginsUnions, AreKeptAt, IsAddedOrReached, Survives, before, IsAtRest, IsTakenBack, is_made_at, is_met_or_none, is_still_met, HasForgotten};
+ghost use Rattle.label_engine.specs.Update.{item_at, items_at, items_to, ends_in, some_fact, goes_from_none, due_with, items_with, items_from, other_fact, made_by, HasUnions, HasUnionsWith, HasMet, AreKeptAlike, IsPutThere, Propagates, DueAlso, WaitsAlso, CarriesOn, IsReady, BeginsUnions, AreKeptAt, IsAddedOrReached, Survives, before, IsAtRest, IsTakenBack, HasForgotten};
 ghost use Rattle.assumption_slots.specs.Slots.{stock};
 
 use crate::nodes::{Insertion, Nodes};
 use crate::recording::{is_target, needed_of, record_all, uses};
+use crate::records::Records;
 use assumption_slots::Slots;
 use circuit_model::{Assumption, Fact};
 use environment_sets::Env;
@@ -39,7 +40,7 @@ pub struct Pending {
 pub struct Update {
     pub slot: u16,
     pub nodes: Nodes,
-    pub recorded: Vec<Inferred>,
+    pub recorded: Records,
     pub due: Vec<Insertion>,
     pub agenda: Agenda<Pending>,
 }
@@ -84,14 +85,15 @@ fn wait_at_uses(
 // finds a clash before all that would be in vain after it.
 fn wait_at_all(
     agenda: &mut Agenda<Pending>,
-    recorded: &[Inferred],
+    recorded: &Records,
     fact: &Fact,
     env: &Env,
 ) -> Result<(), AllocError>
     ensures { IfOk result (λ _. agenda.new ≡ agenda.old ++ items_at (Some fact.now) env.now recorded.now) }
 {
-    wait_at_uses(agenda, recorded, fact, env, false)?;
-    wait_at_uses(agenda, recorded, fact, env, true)
+    let near = recorded.near(fact);
+    wait_at_uses(agenda, near, fact, env, false)?;
+    wait_at_uses(agenda, near, fact, env, true)
 }
 
 // What the inferences from no fact lead to is due, with the environment.
@@ -340,42 +342,6 @@ fn add_unions(due: &mut Vec<Insertion>, nodes: &Nodes, item: &Pending) -> Result
     }
 }
 
-// Whether there is no fact, or it was met.
-fn is_met(nodes: &Nodes, fact: &Option<Fact>) -> bool
-    ensures { result ≡ is_met_or_none nodes.now.list.items fact.now }
-{
-    match fact {
-        None => true,
-        Some(fact) => nodes.is_met(fact),
-    }
-}
-
-// Whether the component at the slot makes it.
-fn is_of(maker: &Option<u16>, slot: u16) -> bool
-    ensures { result ≡ is_made_at slot maker.now }
-{
-    match maker {
-        None => false,
-        Some(made_at) => *made_at == slot,
-    }
-}
-
-// Whether another makes the inference, and all that it goes from was met.
-fn is_kept(inferred: &Inferred, nodes: &Nodes, slot: u16) -> bool
-    ensures { result ≡ is_still_met nodes.now.list.items slot inferred.now }
-{
-    !is_of(&inferred.maker, slot)
-        && is_met(nodes, &inferred.first)
-        && is_met(nodes, &inferred.second)
-}
-
-// Drops the inferences that the slot made, and those that go from a fact that was not met.
-fn drop_stale(recorded: &mut Vec<Inferred>, nodes: &Nodes, slot: u16)
-    ensures { recorded.new.items ≡ filter (is_still_met nodes.now.list.items slot) recorded.old.items }
-{
-    recorded.retain(|inferred| is_kept(inferred, nodes, slot));
-}
-
 impl Update {
     // The fact is met, which it was not: of the inferences that use it, those that are needed are recorded.
     fn meet(&mut self, alloc: Global, slots: &Slots, fact: &Fact) -> Result<(), AllocError>
@@ -560,7 +526,7 @@ impl Update {
         requires { self.old.slot < SLOTS }
         ensures labels { EachDrops (λ F. IsTrue (F self.old.slot)) (take met self.old.nodes.list.items) self.new.nodes.list.items }
         ensures nogoods { Drops (HasMember self.old.nodes.nogoods) (HasMember self.new.nodes.nogoods) (λ F. IsTrue (F self.old.slot)) }
-        ensures recorded { self.new.recorded.items ≡ take recorded self.old.recorded.items }
+        ensures recorded { self.new.recorded ≡ take recorded self.old.recorded }
         ensures due { self.new.due.items ≡ [] }
         ensures agenda { self.new.agenda ≡ [] }
         ensures slot { self.new.slot ≡ self.old.slot }
@@ -600,6 +566,6 @@ impl Update {
         ensures { HasForgotten slot self.old self.new }
     {
         self.nodes.forget(slot);
-        drop_stale(&mut self.recorded, &self.nodes, slot);
+        self.recorded.keep(&self.nodes, slot);
     }
 }

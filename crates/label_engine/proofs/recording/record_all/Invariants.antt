@@ -2,4 +2,4 @@ use Rattle.std.proofs.Common.{◌≡◌, ◌++◌, take}
 use Rattle.label_engine.proofs.recording.record_all.Given as goal
 
 abbrev pub invariant-loop-inferred : goal.invariant-loop-inferred
-invariant-loop-inferred l = l.recorded.items ≡ l.initial.recorded.items ++ take l.inferred-index l.found
+invariant-loop-inferred l = l.recorded ≡ l.initial.recorded ++ take l.inferred-index l.found

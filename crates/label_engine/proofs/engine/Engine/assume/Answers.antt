@@ -5,7 +5,7 @@ use Rattle.label_engine.proofs.engine.Engine.assume.Goals as goal
 
 pub returns-in_default-clause-exact : goal.returns-in_default-clause-exact
 returns-in_default-clause-exact g c =
-    is_exact c.self.inside.slots c.self.inside.update.nodes c.self.inside.update.recorded.items c.self.invariant.up_to_date c.args.self.now c.self.view_is
+    is_exact c.self.inside.slots c.self.inside.update.nodes c.self.inside.update.recorded c.self.invariant.up_to_date c.args.self.now c.self.view_is
 
 pub assume-requires-clause-there : goal.assume-requires-clause-there
 assume-requires-clause-there g c =

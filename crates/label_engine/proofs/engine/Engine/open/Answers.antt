@@ -7,6 +7,6 @@ use Rattle.label_engine.proofs.engine.Engine.open.Goals as goal
 pub returns-clause-exact : goal.returns-clause-exact
 returns-clause-exact c =
     let labels : Nodes = record { list = c.new.result; nogoods = c.new-2.result } in
-    is_exact c.in_ok-slots.slots labels c.new-3.result.items
-    (opened c.in_ok-slots.slots c.in_ok-slots.ensures labels c.new-3.result.items c.new.ensures.items c.new-2.ensures c.new-3.ensures.items)
+    is_exact c.in_ok-slots.slots labels c.in_ok-recorded.recorded
+    (opened c.in_ok-slots.slots c.in_ok-slots.ensures labels c.in_ok-recorded.recorded c.new.ensures.items c.new-2.ensures c.in_ok-recorded.ensures)
     (seen c.in_ok-slots.slots labels) refl

@@ -8,7 +8,7 @@ use Rattle.label_engine.proofs.engine.Engine.values_after.Goals as goal
 
 pub returns-clause-next : goal.returns-clause-next
 returns-clause-next c =
-    let exact : IsExact c.args.self.now = is_exact c.self.inside.slots c.self.inside.update.nodes c.self.inside.update.recorded.items c.self.invariant.up_to_date c.args.self.now c.self.view_is in
+    let exact : IsExact c.args.self.now = is_exact c.self.inside.slots c.self.inside.update.nodes c.self.inside.update.recorded c.self.invariant.up_to_date c.args.self.now c.self.view_is in
     let kept : kept_of c.deref.result.now ≡ c.args.self.now.kept = ap kept_of c.deref.ensures.value ∙ ap (λ (e : Seen). e.kept) c.self.view_is in
     next_word c.args.self.now exact (members c.args.mask.now) (kept_of c.deref.result.now) kept c.args.cell c.args.last c.word_after.result c.word_after.ensures
 

@@ -19,10 +19,10 @@ returns-clause-ok c =
     let needed : List Inferred = c.in_ok-needed.needed.items in
     let made : AreMadeBy c.args.slots.now (facts_of w.nodes.list.items) w.slot found =
     (let P : List Fact → Type 0 = λ l. AreMadeBy c.args.slots.now l w.slot found in subst P (c.deref.ensures.value ∙ c.in_ok-met.ensures) c.in_ok-found.ensures) in
-    let are_needed : AreNeeded w.recorded.items found needed =
-    (let P : List Inferred → List Inferred → Type 0 = λ r f. AreNeeded r f needed in subst (λ r. P r found) c.deref-2.ensures.value (subst (λ f. P c.deref-2.result.now f) c.deref-3.ensures.value c.in_ok-needed.ensures)) in
-    let recorded : c.record_all.new.recorded.items ≡ w.recorded.items ++ needed = c.in_ok-record_all.ensures.ok ∙ ap (λ l. w.recorded.items ++ l) c.deref-4.ensures.value in
+    let are_needed : AreNeeded w.recorded found needed =
+    (let P : List Inferred → List Inferred → Type 0 = λ r f. AreNeeded r f needed in subst (P w.recorded) c.deref-2.ensures.value c.in_ok-needed.ensures) in
+    let recorded : c.record_all.new.recorded ≡ w.recorded ++ needed = c.in_ok-record_all.ensures.ok ∙ ap (λ l. w.recorded ++ l) c.deref-3.ensures.value in
     let due : c.due_from_none.new.due.items ≡ w.due.items ++ map (due_with c.made_by-env.result) (filter goes_from_none needed) =
-    c.in_ok-due_from_none.ensures ∙ ap (λ l. w.due.items ++ map (due_with c.made_by-env.result) (filter goes_from_none l)) c.deref-5.ensures.value in
-    IfOk-map c.wait_at_each.result (λ x e. part_begins c.args.slots.now w c.requires.before c.made_by-env.result c.made_by-env.ensures c.requires.works.0 c.requires.works.1 found needed made are_needed c.record_all.new.recorded.items c.due_from_none.new.due.items c.wait_at_each.new.agenda recorded due
-    (e ∙ ap (λ l. w.agenda ++ items_from w.nodes.list.items l) c.deref-6.ensures.value)) c.wait_at_each.ensures
+    c.in_ok-due_from_none.ensures ∙ ap (λ l. w.due.items ++ map (due_with c.made_by-env.result) (filter goes_from_none l)) c.deref-4.ensures.value in
+    IfOk-map c.wait_at_each.result (λ x e. part_begins c.args.slots.now w c.requires.before c.made_by-env.result c.made_by-env.ensures c.requires.works.0 c.requires.works.1 found needed made are_needed c.record_all.new.recorded c.due_from_none.new.due.items c.wait_at_each.new.agenda recorded due
+    (e ∙ ap (λ l. w.agenda ++ items_from w.nodes.list.items l) c.deref-5.ensures.value)) c.wait_at_each.ensures

@@ -15,7 +15,7 @@ returns-in_err-record_all-clause-survives c =
       agrees = agrees_same c.args.self.now new (record { labels = λ f. refl; nogoods = refl });
       same_slot = refl;
       added = take c.record_all.ensures.partly.0 c.in_ok-needed.needed.items;
-      recorded = rw (← c.deref-4.ensures.value) c.record_all.ensures.partly.1;
+      recorded = rw (← c.deref-3.ensures.value) c.record_all.ensures.partly.1;
       newly = [];
       met = sym (append-nil (facts_of c.args.self.now.nodes.list.items));
       once = λ (d : AreDistinct (facts_of c.args.self.now.nodes.list.items)). d;
@@ -35,7 +35,7 @@ returns-clause-survives c =
       agrees = agrees_same c.args.self.now new (returns-clause-kept c);
       same_slot = refl;
       added = take c.record_all.ensures.partly.0 c.in_ok-needed.needed.items;
-      recorded = rw (← c.deref-4.ensures.value) c.record_all.ensures.partly.1;
+      recorded = rw (← c.deref-3.ensures.value) c.record_all.ensures.partly.1;
       newly = met.0;
       met = met.1;
       once = once_met c.meet.result c.args.self.now.nodes c.meet.new.self c.args.fact.now c.meet.ensures.ok c.meet.ensures.err c.requires;

@@ -3,7 +3,7 @@ use Rattle.label_engine.proofs.Pieces.{holds_popped, carries_on, survives_on, ca
 use Rattle.label_engine.proofs.update.Update.put_all_in.Goals as goal
 
 pub put_in-requires : goal.put_in-requires
-put_in-requires c = holds_popped c.args.slots.now c.loop-due.self.slot c.loop-due.self.nodes c.loop-due.self.recorded.items c.loop-due.self.due.items c.pop.new.self.items c.in-Some.due c.loop-due.self.agenda c.in-Some.ensures.items c.loop-due.invariant.carries.propagates
+put_in-requires c = holds_popped c.args.slots.now c.loop-due.self.slot c.loop-due.self.nodes c.loop-due.self.recorded c.loop-due.self.due.items c.pop.new.self.items c.in-Some.due c.loop-due.self.agenda c.in-Some.ensures.items c.loop-due.invariant.carries.propagates
 
 pub loop-due-preserved : goal.loop-due-preserved
 loop-due-preserved c =

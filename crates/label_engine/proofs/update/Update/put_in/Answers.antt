@@ -1,4 +1,4 @@
-use Rattle.std.proofs.Common.{true≢false, sym, ap, ◌∙◌}
+use Rattle.std.proofs.Common.{true≢false, sym, ◌∙◌}
 use Rattle.environment_sets.specs.Members.{members}
 use Rattle.propagation.specs.Propagating.{IsReached}
 use Rattle.label_engine.specs.Nodes.{KeptIn}
@@ -21,4 +21,4 @@ returns-clause-survives c =
     let out : IsReached (KeptIn c.args.self.now.nodes) c.args.due.now.target (members c.args.due.now.env) → ⊥ = λ r. true≢false (sym (c.reaches.ensures.1 r) ∙ c.if-reaches.false) in
     survives_then c.args.self.now c.meet_target.new.self c.put_there.new.self c.meet_target.ensures.survives
     (agrees_put_there c.args.slots.now c.args.due.now c.args.self.now c.meet_target.new.self c.put_there.new.self c.in_ok-meet_target.ensures.ok out c.in_ok-put_there.ensures.ok)
-    c.put_there.ensures.slot (ap (λ v. v.items) c.put_there.ensures.recorded) c.put_there.ensures.met
+    c.put_there.ensures.slot c.put_there.ensures.recorded c.put_there.ensures.met

@@ -3,7 +3,7 @@ use Rattle.label_engine.proofs.update.Update.settle.Goals as goal
 
 pub carry_out-requires : goal.carry_out-requires
 carry_out-requires g c =
-    rw c.take_at-item.ensures.others (holds_taken c.args.slots.now c.picks.self.slot c.picks.self.nodes c.picks.self.recorded.items c.picks.self.due.items c.picks.self.agenda _ c.take_at-item.result (taken_item c.picks.self.agenda c.pick-place.result c.take_at-item.result c.take_at-item.ensures.item) c.picks.invariant.propagates)
+    rw c.take_at-item.ensures.others (holds_taken c.args.slots.now c.picks.self.slot c.picks.self.nodes c.picks.self.recorded c.picks.self.due.items c.picks.self.agenda _ c.take_at-item.result (taken_item c.picks.self.agenda c.pick-place.result c.take_at-item.result c.take_at-item.ensures.item) c.picks.invariant.propagates)
 
 pub picks-preserved : goal.picks-preserved
 picks-preserved g c =
