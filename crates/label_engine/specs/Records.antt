@@ -1,12 +1,12 @@
--- Recorded inferences, those that use a fact found by the fact's key.
+-- Recorded inferences, those that use a fact found by the fact's net.
 use Rattle.std.specs.Prelude.{◌≡◌, ℕ, ◌+◌, ◌*◌, ◌%◌, ◌<◌, ◌≤◌, Bool, false, ◌==◌, ◌||◌, cond, Option, Some, None, List, [], ◌∷◌, ◌++◌, length, filter, slice_get}
 use Rattle.circuit_model.specs.declared.model.Fact.{Fact}
 use Rattle.inference_search.specs.declared.inferred.Inferred.{Inferred}
 use Rattle.label_engine.specs.declared.records.TheConstants.{SHELVES}
 
--- the key of the fact
+-- the key of the fact: the number of its net
 unfoldable pub key : Fact → ℕ
-key f = (f.cell.net * 37 + (f.cell.cycle * 11 + f.value % 251)) % SHELVES
+key f = f.cell.net % SHELVES
 
 -- there is a fact, and it has the key
 abbrev pub has_key : ℕ → Option Fact → Bool

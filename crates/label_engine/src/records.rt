@@ -8,12 +8,13 @@ ghost use Rattle.label_engine.specs.Records.{key, has_key, lies_on, second_shelf
 
 use crate::nodes::Nodes;
 use circuit_model::Fact;
+use circuit_model::limits::MOST_NETS;
 use inference_search::Inferred;
 use std::alloc::{AllocError, Global};
 use std::marker::Model;
 
-/// How many keys there are.
-pub const SHELVES: usize = 256;
+/// How many keys there are: one for each net that there may be.
+pub const SHELVES: usize = MOST_NETS as usize;
 
 /// The inferences with a fact of one key; contracts see the list.
 #[derive(Drop)]
@@ -31,7 +32,7 @@ impl Model for Shelf {
 }
 
 /// Recorded inferences, in the order in which they were recorded; contracts see the list. Those that use a fact are found
-/// on the shelf of its key, and no others are looked at.
+/// on the shelf of its net, and those of other nets are not looked at.
 #[derive(Drop)]
 pub struct Records {
     list: Vec<Inferred>,
@@ -123,15 +124,13 @@ fn is_kept(inferred: &Inferred, nodes: &Nodes, slot: u16) -> bool
         && is_met(nodes, &inferred.second)
 }
 
-// The key of the fact.
+// The key of the fact: the number of its net. (The remainder alters no net that there may be.)
 #[tactic(auto, unfolding(crate::specs::Records::key))]
 fn key_of(fact: &Fact) -> usize
     ensures key { result ≡ key fact.now }
     ensures below { result < SHELVES }
 {
-    let cell = fact.cell.net as usize * 37;
-    let cycle = fact.cell.cycle as usize * 11;
-    (cell + (cycle + (fact.value % 251) as usize)) % SHELVES
+    fact.cell.net as usize % SHELVES
 }
 
 // Whether there is a fact, and it has the key.
