@@ -11,6 +11,14 @@ ghost use Rattle.antichains.specs.Signed.{size_of, IsSigned};
 use crate::signed_list::SignedList;
 use environment_sets::Env;
 
+// The sizes of the last one and of what was found, where they are there, and of a member.
+#[derive(Drop)]
+struct Sizes {
+    last: Option<u16>,
+    found: Option<u16>,
+    member: u16,
+}
+
 /// The first environment that is inside the mask and comes after `last`, or after nothing. One with fewer slots than `last`,
 /// or with more than what was found, is passed over unread.
 pub fn first_after(
@@ -37,7 +45,12 @@ pub fn first_after(
             continue;
         }
         let member = &signed.list[place];
-        if is_nearer(order, mask, last, &next, member) {
+        let sizes = Sizes {
+            last: least,
+            found: most,
+            member: size,
+        };
+        if is_nearer(order, mask, last, &next, member, &sizes) {
             next = Some(*member);
             most = Some(size);
         }
@@ -82,8 +95,12 @@ fn is_nearer(
     last: Option<&Env>,
     found: &Option<Env>,
     member: &Env,
+    sizes: &Sizes,
 ) -> bool
     requires slots { IsOrder SLOTS order.now }
+    requires last_size { sizes.now.last ≡ option_map size_of (option_copied last) }
+    requires found_size { sizes.now.found ≡ option_map size_of found.now }
+    requires size { sizes.now.member ≡ size_of member.now }
     requires mask_listed { ListsAll order.now (members mask.now) }
     requires last_listed { ForSome last (λ l. ListsAll order.now (members l.now)) }
     requires found_listed { ForSome found.now (λ e. ListsAll order.now (members e)) }
@@ -92,34 +109,45 @@ fn is_nearer(
     if !member.is_subset(mask) {
         return false;
     }
-    if is_behind(order, found, member) {
+    if is_behind(order, found, member, sizes) {
         return false;
     }
-    comes_after(order, last, member)
+    comes_after(order, last, member, sizes)
 }
 
 // Whether something was found that comes before the member.
-fn is_behind(order: &[u16], found: &Option<Env>, member: &Env) -> bool
+fn is_behind(order: &[u16], found: &Option<Env>, member: &Env, sizes: &Sizes) -> bool
     requires slots { IsOrder SLOTS order.now }
+    requires found_size { sizes.now.found ≡ option_map size_of found.now }
+    requires size { sizes.now.member ≡ size_of member.now }
     requires found_listed { ForSome found.now (λ e. ListsAll order.now (members e)) }
     requires listed { ListsAll order.now (members member.now) }
     ensures { IsTrue result ↔ IsBehind order.now (option_map members found.now) (members member.now) }
 {
-    match found {
-        Some(env) => env.compare_in(order, member).is_lt(),
-        None => false,
-    }
+    let Some(env) = found else {
+        return false;
+    };
+    let Some(size) = sizes.found else {
+        return false;
+    };
+    env.compare_sized(size, order, member, sizes.member).is_lt()
 }
 
 // Whether the member comes after the last.
-fn comes_after(order: &[u16], last: Option<&Env>, member: &Env) -> bool
+fn comes_after(order: &[u16], last: Option<&Env>, member: &Env, sizes: &Sizes) -> bool
     requires slots { IsOrder SLOTS order.now }
+    requires last_size { sizes.now.last ≡ option_map size_of (option_copied last) }
+    requires size { sizes.now.member ≡ size_of member.now }
     requires last_listed { ForSome last (λ l. ListsAll order.now (members l.now)) }
     requires listed { ListsAll order.now (members member.now) }
     ensures { IsTrue result ↔ ComesAfter order.now (option_map members (option_copied last.entry)) (members member.now) }
 {
-    match last {
-        Some(last) => last.compare_in(order, member).is_lt(),
-        None => true,
-    }
+    let Some(last) = last else {
+        return true;
+    };
+    let Some(size) = sizes.last else {
+        return false;
+    };
+    last.compare_sized(size, order, member, sizes.member)
+        .is_lt()
 }

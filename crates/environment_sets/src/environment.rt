@@ -137,7 +137,19 @@ impl Env {
         requires other_listed { ListsAll order.now (members other.now) }
         ensures { result ≡ compare_in order.now (members self.now) (members other.now) }
     {
-        match self.size().cmp(&other.size()) {
+        self.compare_sized(self.size(), order, other, other.size())
+    }
+
+    /// The same, where the sizes of both are known. Many environments are compared without counting their slots anew.
+    pub fn compare_sized(&self, size: u16, order: &[u16], other: &Env, other_size: u16) -> Ordering
+        requires size { size ≡ size_below SLOTS (members self.now) }
+        requires other_size { other_size ≡ size_below SLOTS (members other.now) }
+        requires slots { IsOrder SLOTS order.now }
+        requires listed { ListsAll order.now (members self.now) }
+        requires other_listed { ListsAll order.now (members other.now) }
+        ensures { result ≡ compare_in order.now (members self.now) (members other.now) }
+    {
+        match size.cmp(&other_size) {
             Ordering::Equal => self.compare_first(order, other),
             unequal => unequal,
         }
