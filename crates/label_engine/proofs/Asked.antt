@@ -17,8 +17,8 @@ use Rattle.environment_sets.specs.Families.{AreInside}
 use Rattle.environment_sets.specs.Walks.{GivesNext}
 use Rattle.inference_search.specs.declared.inferred.Inferred.{Inferred}
 use Rattle.assumption_slots.specs.Slots.{stock}
-use Rattle.label_engine.specs.declared.nodes.Node.{Node}
-use Rattle.label_engine.specs.declared.nodes.Nodes.{Nodes}
+use Rattle.label_engine.specs.declared.node.Node.{Node}
+use Rattle.label_engine.specs.declared.node.Nodes.{Nodes}
 use Rattle.label_engine.specs.Engine.{Kept, Seen, label_of, label_at, kept_of}
 use Rattle.label_engine.specs.Nodes.{KeptIn, label_in}
 use Rattle.label_engine.specs.Update.{AreUpToDate}

@@ -21,8 +21,8 @@ use Rattle.propagation.proofs.Start.{NoItem, start_reading, start_part, choice_r
 use Rattle.propagation.proofs.Entry.{leads_more, sound_more}
 use Rattle.propagation.proofs.Unions.{leads_on}
 use Rattle.propagation.proofs.Whole as whole
-use Rattle.label_engine.specs.declared.nodes.Node.{Node}
-use Rattle.label_engine.specs.declared.nodes.Insertion.{Insertion}
+use Rattle.label_engine.specs.declared.node.Node.{Node}
+use Rattle.label_engine.specs.declared.node.Insertion.{Insertion}
 use Rattle.label_engine.specs.declared.update.Pending.{Pending}
 use Rattle.label_engine.specs.declared.update.Update.{Update}
 use Rattle.label_engine.specs.Nodes.{facts_of, label_in, KeptIn}

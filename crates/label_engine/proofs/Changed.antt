@@ -6,8 +6,8 @@ use Rattle.environment_sets.specs.Sets.{Set, ◌⊆◌}
 use Rattle.environment_sets.specs.Members.{members, HasMember}
 use Rattle.environment_sets.specs.Families.{Adds}
 use Rattle.propagation.specs.Propagating.{IsPut}
-use Rattle.label_engine.specs.declared.nodes.Node.{Node}
-use Rattle.label_engine.specs.declared.nodes.Nodes.{Nodes}
+use Rattle.label_engine.specs.declared.node.Node.{Node}
+use Rattle.label_engine.specs.declared.node.Nodes.{Nodes}
 use Rattle.label_engine.specs.Nodes.{label_in, KeptIn, EachDrops}
 use Rattle.label_engine.proofs.Labelled.{is_at, label_at, label_there, label_elsewhere, same_or_not, inside_or_not, dropped_label}
 use Rattle.label_engine.proofs.Puts.{put_fact, put_clash}

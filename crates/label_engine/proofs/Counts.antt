@@ -8,7 +8,7 @@ use Rattle.environment_sets.specs.declared.environment.Env.{Env}
 use Rattle.environment_sets.specs.Lists.{IsIn, AreDistinct}
 use Rattle.environment_sets.specs.Members.{HasMember}
 use Rattle.environment_sets.specs.Sets.{Set, ◌⊆◌}
-use Rattle.label_engine.specs.declared.nodes.Node.{Node}
+use Rattle.label_engine.specs.declared.node.Node.{Node}
 use Rattle.label_engine.specs.Nodes.{is_same, facts_of, label_in, envs_of}
 use Rattle.label_engine.specs.Questions.{ArePairs, shown_as}
 use Rattle.environment_sets.proofs.Membership.{IsIn-append, IsIn-left, IsIn-right, IsIn-map, map-IsIn, AreDistinct-append}

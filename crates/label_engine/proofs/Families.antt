@@ -14,8 +14,8 @@ use Rattle.environment_sets.specs.Lists.{IsIn}
 use Rattle.environment_sets.proofs.Slots.{slots_are_below}
 use Rattle.environment_sets.proofs.Within.{within_holds, holds_within}
 use Rattle.propagation.specs.Propagating.{Target, IsReached}
-use Rattle.label_engine.specs.declared.nodes.Node.{Node}
-use Rattle.label_engine.specs.declared.nodes.Nodes.{Nodes}
+use Rattle.label_engine.specs.declared.node.Node.{Node}
+use Rattle.label_engine.specs.declared.node.Nodes.{Nodes}
 use Rattle.label_engine.specs.Nodes.{is_same, facts_of, envs_of, label_in, KeptIn, covers, reaches}
 use Rattle.label_engine.specs.Update.{is_same_target}
 use Rattle.label_engine.proofs.Labelled.{is_at, same_fact, fact_same, fact_same_of}

@@ -23,7 +23,7 @@ use Rattle.propagation.proofs.Entry.{has_in_part}
 use Rattle.inference_search.specs.declared.inferred.Inferred.{Inferred}
 use Rattle.inference_search.specs.Inferences.{facts, RecordedIn}
 use Rattle.assumption_slots.specs.Slots.{stock}
-use Rattle.label_engine.specs.declared.nodes.Node.{Node}
+use Rattle.label_engine.specs.declared.node.Node.{Node}
 use Rattle.label_engine.specs.declared.update.Update.{Update}
 use Rattle.label_engine.specs.Nodes.{is_same, facts_of, envs_of, label_in, KeptIn, has_any, is_supported}
 use Rattle.label_engine.specs.Update.{is_made_at, is_met_or_none, is_still_met, HasForgotten, IsAtRest}
@@ -186,7 +186,7 @@ facts_fewer nodes f h =
     let there : IsIn nodes n.0 × IsTrue (is_supported n.0) = IsIn-filter is_supported nodes n.0 n.1 in
     subst (IsIn (facts_of nodes)) n.2 (map-IsIn (λ (x : Node). x.fact) nodes n.0 there.0)
 
-distinct_left : (nodes : List Node) → AreDistinct (facts_of nodes) → AreDistinct (facts_of (filter is_supported nodes))
+pub distinct_left : (nodes : List Node) → AreDistinct (facts_of nodes) → AreDistinct (facts_of (filter is_supported nodes))
 distinct_left [] d = tt
 distinct_left (n ∷ nodes) d = elim (is_supported n) as (λ b. AreDistinct (facts_of (cond b (n ∷ filter is_supported nodes) (filter is_supported nodes)))) [
   | true ↦ ((λ f h. d.0 f (facts_fewer nodes f h)), distinct_left nodes d.1)

@@ -16,8 +16,8 @@ use Rattle.propagation.proofs.Uncovered.{uncovered_less}
 use Rattle.propagation.proofs.Meeting.{recorded_met}
 use Rattle.propagation.proofs.Steps.{reached_stays, reached_there}
 use Rattle.propagation.proofs.Whole as whole
-use Rattle.label_engine.specs.declared.nodes.Nodes.{Nodes}
-use Rattle.label_engine.specs.declared.nodes.Insertion.{Insertion}
+use Rattle.label_engine.specs.declared.node.Nodes.{Nodes}
+use Rattle.label_engine.specs.declared.node.Insertion.{Insertion}
 use Rattle.inference_search.specs.declared.inferred.Inferred.{Inferred}
 use Rattle.label_engine.specs.declared.update.Pending.{Pending}
 use Rattle.label_engine.specs.Nodes.{facts_of, KeptIn, reaches}

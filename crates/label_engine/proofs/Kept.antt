@@ -9,7 +9,7 @@ use Rattle.environment_sets.specs.Members.{members, HasMember}
 use Rattle.environment_sets.specs.Lists.{IsIn, AreDistinct}
 use Rattle.environment_sets.proofs.Listings.{IsIn-filter, IsIn-kept}
 use Rattle.environment_sets.proofs.Membership.{IsIn-append, IsIn-left, IsIn-right, IsIn-map, map-IsIn}
-use Rattle.label_engine.specs.declared.nodes.Node.{Node}
+use Rattle.label_engine.specs.declared.node.Node.{Node}
 use Rattle.label_engine.specs.Nodes.{is_same, facts_of, envs_of, label_in}
 use Rattle.label_engine.specs.Engine.{Kept, label_of, kept_at, kept_of}
 use Rattle.label_engine.proofs.Labelled.{is_at, same_fact, fact_same}

@@ -1,11 +1,15 @@
 -- The labels of lists of nodes.
-use Rattle.std.proofs.Common.{◌≡◌, ℕ, ◌+◌, ◌<◌, ◌≤◌, ◌⊎◌, inl, inr, Bool, true, false, ◌==◌, cond, nat_lt, IsTrue, true≢false, refl, sym, ap, ap₂, subst, ◌∙◌, List, [], ◌∷◌, ◌++◌, length, take, drop, get_or, set, position, Some, None, IsSome, arith}
+use Rattle.std.proofs.Common.{◌≡◌, ℕ, zero, suc, ◌+◌, ◌<◌, ◌≤◌, ◌⊎◌, inl, inr, Bool, true, false, ◌==◌, cond, nat_lt, IsTrue, true≢false, refl, sym, ap, ap₂, subst, ◌∙◌, List, [], ◌∷◌, ◌++◌, length, take, drop, get_or, set, position, Some, None, IsSome, arith}
 use Rattle.std.proofs.lemmas.Bool.{and_from, and_parts, eqb-true, eq-eqb}
-use Rattle.std.specs.List.{find, position_or_len, slice_get}
+use Rattle.std.specs.Option.{option_map}
+use Rattle.std.specs.List.{find, list_any, position_or_len, slice_get}
 use Rattle.std.proofs.lemmas.Bool.Decides.{nat_tests}
+use Rattle.std.proofs.lemmas.List.{map-append}
+use Rattle.std.proofs.lemmas.Option.{slice_get-map, slice_get-get_or}
 use Rattle.std.proofs.lemmas.List.{take_more, take_more_set, drop_more, drop-set-lt}
+use Rattle.std.proofs.lemmas.List.Sums.{position_or_len_is}
 use Rattle.std.proofs.lemmas.List.Folds.{find_at, find-set, find_past}
-use Rattle.std.proofs.lemmas.Option.{slice_get_past, slice_get-get_or}
+use Rattle.std.proofs.lemmas.Option.{slice_get_past, slice_get-get_or, slice_get_within, get_or_from_slice_get}
 use Rattle.std.proofs.lemmas.List.Quantifiers.{position-Some}
 use Rattle.circuit_model.specs.declared.model.Fact.{Fact}
 use Rattle.circuit_model.specs.Closure.{fact}
@@ -17,10 +21,12 @@ use Rattle.environment_sets.specs.Sets.{Set, ◌⊆◌, is_within}
 use Rattle.environment_sets.specs.Members.{members, HasMember}
 use Rattle.environment_sets.proofs.Slots.{slots_are_below}
 use Rattle.environment_sets.proofs.Within.{within_holds, holds_within}
-use Rattle.environment_sets.specs.Lists.{IsIn}
+use Rattle.environment_sets.specs.Lists.{IsIn, AreDistinct}
+use Rattle.environment_sets.proofs.Membership.{IsIn-slice_get, slice_get-IsIn, list_any-IsIn}
+use Rattle.environment_sets.proofs.Membership.{AreDistinct-push}
 use Rattle.environment_sets.specs.Families.{Drops}
-use Rattle.label_engine.specs.declared.nodes.Node.{Node}
-use Rattle.label_engine.specs.Nodes.{is_same, facts_of, IsMet, envs_of, label_in, EachDrops, AreDropped}
+use Rattle.label_engine.specs.declared.node.Node.{Node}
+use Rattle.label_engine.specs.Nodes.{is_same, facts_of, AreOnce, IsMet, envs_of, label_in, EachDrops, AreDropped}
 
 pub same_fact : (f g : Fact) → IsTrue (is_same f g) → f ≡ g
 same_fact f g h = let parts : IsTrue (is_cell f.cell g.cell) × IsTrue (f.value == g.value) = and_parts _ (f.value == g.value) h in ap₂ fact (same_cell f.cell g.cell parts.0) (eqb-true f.value g.value parts.1)
@@ -105,6 +111,64 @@ met_has_place nodes f h =
           ]
         ] refl
 
+-- facts that differ have no two nodes, and the other way
+pub once_from : (nodes : List Node) → AreDistinct (facts_of nodes) → AreOnce nodes
+once_from [] d i j f before one other = absurd (cc)
+once_from (x ∷ xs) d i zero f before one other = absurd (omega (arith, before))
+once_from (x ∷ xs) d zero (suc j) f before one other = let same : x.fact ≡ f = cc in d.0 f (IsIn-slice_get (facts_of xs) j f other) same
+once_from (x ∷ xs) d (suc i) (suc j) f before one other = once_from xs d.1 i j f (omega (arith, before)) one other
+
+-- the same facts have no two nodes either
+pub once_same : (old new : List Node) → facts_of new ≡ facts_of old → AreOnce old → AreOnce new
+once_same old new same once i j f before one other =
+    let P : List Fact → ℕ → Type 0 = λ l k. slice_get l k ≡ Some f in
+    once i j f before (subst (λ l. P l i) same one) (subst (λ l. P l j) same other)
+
+pub distinct_of : (nodes : List Node) → AreOnce nodes → AreDistinct (facts_of nodes)
+distinct_of [] once = tt
+distinct_of (x ∷ xs) once = (
+  λ f h same. let at : (k : ℕ) × (slice_get (facts_of xs) k ≡ Some f) = slice_get-IsIn (facts_of xs) f h in once 0 (suc at.0) f (omega arith) (ap (λ g. Some g) same) at.1,
+  distinct_of xs (λ i j f before one other. once (suc i) (suc j) f (omega (arith, before)) one other),
+)
+
+-- with the first nodes alone
+front_get : (k : ℕ) (nodes : List Node) (i : ℕ) (f : Fact) → slice_get (facts_of (take k nodes)) i ≡ Some f → slice_get (facts_of nodes) i ≡ Some f
+front_get zero nodes i f e = absurd (cc)
+front_get (suc k) [] i f e = absurd (cc)
+front_get (suc k) (x ∷ xs) zero f e = e
+front_get (suc k) (x ∷ xs) (suc i) f e = front_get k xs i f e
+
+pub once_first : (k : ℕ) (nodes : List Node) → AreOnce nodes → AreOnce (take k nodes)
+once_first k nodes once i j f before one other = once i j f before (front_get k nodes i f one) (front_get k nodes j f other)
+
+pub once_none : (nodes : List Node) → nodes ≡ [] → AreOnce nodes
+once_none nodes none = let nowhere : AreOnce [] = λ i j f before one other. absurd (cc) in subst AreOnce (sym none) nowhere
+
+-- with a node of another fact
+pub once_more : (nodes : List Node) (n : Node) → AreOnce nodes → (IsMet nodes n.fact → ⊥) → AreOnce (nodes ++ n ∷ [])
+once_more nodes n once unmet =
+    once_from (nodes ++ n ∷ []) (subst AreDistinct (sym (map-append (λ (m : Node). m.fact) nodes (n ∷ []))) (AreDistinct-push (facts_of nodes) n.fact (distinct_of nodes once) unmet))
+
+module _ (nodes : List Node) (f : Fact) (i : ℕ) (n : Node) (there : slice_get nodes i ≡ Some n) (here : IsTrue (is_same n.fact f)) where
+  pub only_place : AreOnce nodes → position (is_at f) nodes ≡ Some i
+  only_place once =
+      let inside : i < length nodes = slice_get_within nodes i n there in
+      let low : nat_lt i (length nodes) ≡ true = grind (arith, nat_tests) in
+      let P : Node → Type 0 = λ m. is_at f m ≡ true in
+      let first : position_or_len (is_at f) nodes ≡ i =
+      position_or_len_is (is_at f) nodes i n (omega (arith, inside))
+      (λ k before. elim (is_at f (get_or nodes k n)) as (λ b. is_at f (get_or nodes k n) ≡ b → b ≡ false) [
+        | true ↦ λ is. absurd (once k i f before
+            (slice_get-map (λ (m : Node). m.fact) nodes k ∙ (ap (option_map (λ (m : Node). m.fact)) (slice_get-get_or nodes k n (omega (arith, before, inside))) ∙ ap (λ g. Some g) (same_fact (get_or nodes k n).fact f is)))
+            (slice_get-map (λ (m : Node). m.fact) nodes i ∙ (ap (option_map (λ (m : Node). m.fact)) there ∙ ap (λ g. Some g) (same_fact n.fact f here))))
+        | false ↦ λ _. refl
+      ] refl)
+      (λ _. subst P (sym (get_or_from_slice_get nodes i n n there)) here) in
+      ap (λ k. cond (nat_lt k (length nodes)) (Some k) None) first ∙ ap (λ b. cond b (Some i) None) low
+
+  pub some_place : list_any (is_at f) nodes ≡ true
+  some_place = list_any-IsIn (is_at f) nodes n (IsIn-slice_get nodes i n there) here
+
 -- environments are dropped from each label
 module _ (P : Set ℕ → Type 0) where
   pub dropped_label : (old new : List Node) (f : Fact) → EachDrops P old new → Drops (HasMember (label_in old f)) (HasMember (label_in new f)) P
@@ -123,6 +187,9 @@ module _ (P : Set ℕ → Type 0) where
   dropped_facts [] (n ∷ new) e = absurd e
   dropped_facts (o ∷ old) [] e = absurd e
   dropped_facts (o ∷ old) (n ∷ new) e = ap₂ (λ (f : Fact) (fs : List Fact). f ∷ fs) e.0 (dropped_facts old new e.2)
+
+  pub dropped_once : (old new : List Node) → EachDrops P old new → AreOnce old → AreOnce new
+  dropped_once old new e = once_same old new (dropped_facts old new e)
 
   dropped_push : (old new : List Node) (o n : Node) → EachDrops P old new → n.fact ≡ o.fact → Drops (HasMember o.label) (HasMember n.label) P → EachDrops P (old ++ o ∷ []) (new ++ n ∷ [])
   dropped_push [] [] o n e same drops = (same, drops, tt)

@@ -12,8 +12,8 @@ use Rattle.environment_sets.specs.Lists.{IsIn}
 use Rattle.propagation.specs.Propagating.{Target, RecordedInference, HasAt, Leads, HasMaker, AreChosen, SomeWaits, IsDue}
 use Rattle.propagation.proofs.Unions.{leads_on, has_more, maker_some}
 use Rattle.propagation.proofs.Whole as whole
-use Rattle.label_engine.specs.declared.nodes.Nodes.{Nodes}
-use Rattle.label_engine.specs.declared.nodes.Insertion.{Insertion}
+use Rattle.label_engine.specs.declared.node.Nodes.{Nodes}
+use Rattle.label_engine.specs.declared.node.Insertion.{Insertion}
 use Rattle.inference_search.specs.declared.inferred.Inferred.{Inferred}
 use Rattle.label_engine.specs.declared.update.Pending.{Pending}
 use Rattle.label_engine.specs.Nodes.{facts_of, KeptIn}

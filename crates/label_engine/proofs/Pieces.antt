@@ -13,9 +13,9 @@ use Rattle.environment_sets.specs.Lists.{IsIn, AreDistinct}
 use Rattle.propagation.specs.Propagating.{Target, Family, RecordedInference, IsReached, AgreeWithout, IsPropagating}
 use Rattle.propagation.proofs.Whole as whole
 use Rattle.propagation.specs.Uncovered.{uncovered, TargetFits}
-use Rattle.label_engine.specs.declared.nodes.Node.{Node}
-use Rattle.label_engine.specs.declared.nodes.Nodes.{Nodes}
-use Rattle.label_engine.specs.declared.nodes.Insertion.{Insertion}
+use Rattle.label_engine.specs.declared.node.Node.{Node}
+use Rattle.label_engine.specs.declared.node.Nodes.{Nodes}
+use Rattle.label_engine.specs.declared.node.Insertion.{Insertion}
 use Rattle.inference_search.specs.declared.inferred.Inferred.{Inferred}
 use Rattle.label_engine.specs.declared.update.Pending.{Pending}
 use Rattle.label_engine.specs.declared.update.Update.{Update}

@@ -10,7 +10,7 @@ use Rattle.environment_sets.specs.declared.environment.Env.{Env}
 use Rattle.environment_sets.specs.Lists.{IsIn}
 use Rattle.environment_sets.proofs.Listings.{IsIn-filter}
 use Rattle.inference_search.specs.declared.inferred.Inferred.{Inferred}
-use Rattle.label_engine.specs.declared.records.TheConstants.{SHELVES}
+use Rattle.label_engine.specs.declared.keys.TheConstants.{SHELVES}
 use Rattle.label_engine.specs.declared.update.Pending.{Pending}
 use Rattle.label_engine.specs.Records.{key, has_key, lies_on, put_for, has_key_of, second_shelf, AreShelved, AreBegun, IsPutLast, AreUpTo}
 use Rattle.label_engine.specs.Update.{is_same_target, goes_from, item_at, ends_in, items_to, items_at}

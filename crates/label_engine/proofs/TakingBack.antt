@@ -13,7 +13,7 @@ use Rattle.environment_sets.specs.Lists.{IsIn, AreDistinct}
 use Rattle.environment_sets.specs.Families.{Drops}
 use Rattle.propagation.specs.Propagating.{Target}
 use Rattle.propagation.proofs.Alike.{settled_alike}
-use Rattle.label_engine.specs.declared.nodes.Node.{Node}
+use Rattle.label_engine.specs.declared.node.Node.{Node}
 use Rattle.label_engine.specs.declared.update.Update.{Update}
 use Rattle.label_engine.specs.Nodes.{is_same, facts_of, envs_of, label_in, KeptIn, EachDrops}
 use Rattle.label_engine.specs.Update.{before, Survives, IsAtRest, IsTakenBack}

@@ -15,7 +15,7 @@ use Rattle.environment_sets.specs.Sets.{Set, ◌⊆◌, is_within}
 use Rattle.environment_sets.proofs.Counting.{count_by-lt}
 use Rattle.environment_sets.proofs.Listings.{IsIn-push, IsIn-front, IsIn-last}
 use Rattle.environment_sets.proofs.Within.{holds_within}
-use Rattle.label_engine.specs.declared.nodes.Node.{Node}
+use Rattle.label_engine.specs.declared.node.Node.{Node}
 use Rattle.label_engine.specs.Engine.{Kept, label_of, kept_of}
 use Rattle.label_engine.specs.Questions.{IsAbove, IsNextNumber, GivesNextNumber, HasInside, is_above, is_left, values_left, IsLeft, IsLeastOf}
 use Rattle.label_engine.proofs.Kept.{kept_member, node_of, of_node}

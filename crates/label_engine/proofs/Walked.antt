@@ -5,10 +5,10 @@ use Rattle.environment_sets.proofs.Membership.{IsIn-append, IsIn-left, IsIn-righ
 use Rattle.environment_sets.specs.declared.environment.Env.{Env}
 use Rattle.environment_sets.specs.Sets.{Set, ◌∪◌, ◌⊆◌}
 use Rattle.environment_sets.specs.Members.{members, HasMember}
-use Rattle.label_engine.specs.declared.nodes.Insertion.{Insertion}
+use Rattle.label_engine.specs.declared.node.Insertion.{Insertion}
 use Rattle.label_engine.specs.declared.update.Pending.{Pending}
 use Rattle.propagation.specs.Propagating.{Target, IsReached}
-use Rattle.label_engine.specs.declared.nodes.Nodes.{Nodes}
+use Rattle.label_engine.specs.declared.node.Nodes.{Nodes}
 use Rattle.label_engine.specs.Nodes.{KeptIn}
 use Rattle.label_engine.specs.Update.{made_by, union_of, IsUnion, BeginsUnions, IsAddedOrReached, HasUnionsWith}
 

@@ -7,7 +7,7 @@ use Rattle.environment_sets.specs.declared.environment.Env.{Env}
 use Rattle.environment_sets.specs.declared.environment.TheConstants.{SLOTS}
 use Rattle.environment_sets.specs.Sets.{Set}
 use Rattle.environment_sets.specs.Members.{HasMember}
-use Rattle.label_engine.specs.declared.nodes.Node.{Node}
+use Rattle.label_engine.specs.declared.node.Node.{Node}
 use Rattle.label_engine.specs.Nodes.{is_same}
 
 -- an environment that is kept in the label of a fact

@@ -1,5 +1,5 @@
 -- What is kept: the facts that were met, each with its label, and the nogoods.
-use Rattle.std.specs.Prelude.{◌≡◌, ℕ, Bool, true, false, ◌==◌, ◌&&◌, ◌||◌, Option, Some, None, List, [], ◌∷◌, map, filter, take, drop}
+use Rattle.std.specs.Prelude.{◌≡◌, ℕ, ◌<◌, Bool, true, false, ◌==◌, ◌&&◌, ◌||◌, Option, Some, None, List, [], ◌∷◌, map, filter, take, drop, slice_get}
 use Rattle.std.specs.List.{list_any, find}
 use Rattle.circuit_model.specs.declared.model.Fact.{Fact}
 use Rattle.circuit_model.specs.Present.{is_cell}
@@ -10,8 +10,8 @@ use Rattle.environment_sets.specs.Members.{members, HasMember}
 use Rattle.environment_sets.specs.Lists.{IsIn}
 use Rattle.environment_sets.specs.Families.{Drops}
 use Rattle.propagation.specs.Propagating.{Target, Family}
-use Rattle.label_engine.specs.declared.nodes.Node.{Node}
-use Rattle.label_engine.specs.declared.nodes.Nodes.{Nodes}
+use Rattle.label_engine.specs.declared.node.Node.{Node}
+use Rattle.label_engine.specs.declared.node.Nodes.{Nodes}
 
 -- the two are the same fact
 abbrev pub is_same : Fact → Fact → Bool
@@ -24,6 +24,10 @@ facts_of nodes = map (λ n. n.fact) nodes
 -- the fact has a node
 abbrev pub IsMet : List Node → Fact → Type 0
 IsMet nodes f = IsIn (facts_of nodes) f
+
+-- no fact has two nodes
+abbrev pub AreOnce : List Node → Type 0
+AreOnce nodes = (i j : ℕ) (f : Fact) → i < j → slice_get (facts_of nodes) i ≡ Some f → slice_get (facts_of nodes) j ≡ Some f → ⊥
 
 -- the node's label; no node has no environment
 abbrev pub envs_of : Option Node → List Env

@@ -2,7 +2,7 @@
 use Rattle.std.specs.Prelude.{◌≡◌, ℕ, ◌+◌, ◌*◌, ◌%◌, ◌<◌, ◌≤◌, Bool, false, ◌==◌, ◌||◌, cond, Option, Some, None, List, [], ◌∷◌, ◌++◌, length, filter, slice_get}
 use Rattle.circuit_model.specs.declared.model.Fact.{Fact}
 use Rattle.inference_search.specs.declared.inferred.Inferred.{Inferred}
-use Rattle.label_engine.specs.declared.records.TheConstants.{SHELVES}
+use Rattle.label_engine.specs.declared.keys.TheConstants.{SHELVES}
 
 -- the key of the fact: the number of its net
 unfoldable pub key : Fact → ℕ

@@ -13,9 +13,9 @@ use Rattle.environment_sets.specs.Lists.{IsIn, AreDistinct}
 use Rattle.environment_sets.specs.Families.{Drops}
 use Rattle.propagation.specs.Propagating.{Target, Family, RecordedInference, All, AreRecorded, IsPropagating, IsReached, AgreeWithout, IsPut}
 use Rattle.propagation.specs.Uncovered.{uncovered}
-use Rattle.label_engine.specs.declared.nodes.Node.{Node}
-use Rattle.label_engine.specs.declared.nodes.Nodes.{Nodes}
-use Rattle.label_engine.specs.declared.nodes.Insertion.{Insertion}
+use Rattle.label_engine.specs.declared.node.Node.{Node}
+use Rattle.label_engine.specs.declared.node.Nodes.{Nodes}
+use Rattle.label_engine.specs.declared.node.Insertion.{Insertion}
 use Rattle.inference_search.specs.declared.inferred.Inferred.{Inferred}
 use Rattle.assumption_slots.specs.Slots.{stock}
 use Rattle.inference_search.specs.Inferences.{facts, inference, RecordedIn}

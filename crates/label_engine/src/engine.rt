@@ -11,7 +11,8 @@ ghost use Rattle.circuit_model.specs.Settled.{AreExact};
 ghost use Rattle.assumption_slots.specs.Slots.{stock};
 ghost use Rattle.label_engine.specs.Engine.{label_at, Remembers, Forgets, AreAllTaken, IsAsBefore};
 
-use crate::nodes::{Nodes, is_same_fact};
+use crate::node::Nodes;
+use crate::nodes::{is_same_fact, no_hints};
 use crate::records::Records;
 use crate::update::Update;
 use assumption_slots::Slots;
@@ -73,9 +74,11 @@ impl Engine {
     {
         let slots = Slots::open(alloc)?;
         let recorded = Records::open(alloc)?;
+        let hints = no_hints(alloc)?;
         let nodes = Nodes {
             list: Vec::new(alloc),
             nogoods: Nogoods::new(alloc),
+            hints,
         };
         let update = Update {
             slot: 0,

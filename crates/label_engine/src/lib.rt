@@ -2,6 +2,8 @@
 #![tactic(auto)]
 
 mod engine;
+mod keys;
+mod node;
 mod nodes;
 mod questions;
 mod recording;

@@ -1,39 +1,23 @@
 // What is kept: the facts that were met, each with its label, and the nogoods.
 
-ghost use Rattle.std.specs.Prelude.{◌≡◌, ◌<◌, ◌↔◌, ◌++◌, ◌∷◌, [], IsTrue, IfOk, OnOk, OnErr, MatchOption, Some, None, position, take, filter};
+ghost use Rattle.std.specs.Prelude.{◌≡◌, ◌<◌, ◌↔◌, ◌++◌, ◌∷◌, [], IsTrue, IfOk, OnOk, OnErr, MatchOption, Some, None, position, slice_get, take, filter};
 ghost use Rattle.std.specs.List.{list_any};
 ghost use Rattle.environment_sets.specs.Sets.{◌⊆◌};
 ghost use Rattle.environment_sets.specs.Members.{members, HasMember};
 ghost use Rattle.environment_sets.specs.Families.{Drops, IsCovered};
 ghost use Rattle.propagation.specs.Propagating.{IsReached, IsPut};
-ghost use Rattle.label_engine.specs.Nodes.{is_same, facts_of, label_in, KeptIn, IsMet, EachDrops, is_supported, AreSupported};
+ghost use Rattle.label_engine.specs.declared.node.Node.{Node};
+ghost use Rattle.label_engine.specs.Nodes.{is_same, facts_of, AreOnce, label_in, KeptIn, IsMet, EachDrops, is_supported, AreSupported};
 
+use crate::node::{Insertion, Node, Nodes};
 use circuit_model::Fact;
+use circuit_model::limits::{MOST_CYCLES, MOST_NETS};
 use environment_sets::{Env, SLOTS};
 use label_algebra::Label;
-use nogood_store::Nogoods;
 use std::alloc::{AllocError, Global};
 
-/// A fact with its label.
-#[derive(Drop)]
-pub struct Node {
-    pub fact: Fact,
-    pub label: Label,
-}
-
-/// A node for each fact that was met, and the nogoods. A fact that was not met has no environment.
-#[derive(Drop)]
-pub struct Nodes {
-    pub list: Vec<Node>,
-    pub nogoods: Nogoods,
-}
-
-/// An environment that is to be put in at a fact, or as a nogood.
-#[derive(Clone, Copy)]
-pub struct Insertion {
-    pub target: Option<Fact>,
-    pub env: Env,
-}
+// How many hints there are: for each cell that there may be, one for even words and one for odd ones.
+const HINTS: usize = 2 * MOST_NETS as usize * MOST_CYCLES as usize;
 
 /// Whether the two are the same fact.
 pub fn is_same_fact(a: &Fact, b: &Fact) -> bool
@@ -42,11 +26,55 @@ pub fn is_same_fact(a: &Fact, b: &Fact) -> bool
     a.cell.net == b.cell.net && a.cell.cycle == b.cell.cycle && a.value == b.value
 }
 
-// The place of the fact's node.
-fn place_of(nodes: &[Node], fact: &Fact) -> Option<usize>
+// Whether the fact's node is at the place.
+fn is_at(nodes: &[Node], place: usize, fact: &Fact) -> bool
+    ensures { IsTrue result → (n : Node) × (slice_get nodes.now place ≡ Some n) × IsTrue (is_same n.fact fact.now) }
+{
+    match nodes.get(place) {
+        Some(node) => is_same_fact(&node.fact, fact),
+        None => false,
+    }
+}
+
+// The place of the fact's node, which is tried first where the hint says.
+fn place_of(nodes: &[Node], hint: usize, fact: &Fact) -> Option<usize>
+    requires { AreOnce nodes.now }
     ensures { result ≡ position (λ n. is_same n.fact fact.now) nodes.now }
 {
+    if is_at(nodes, hint, fact) {
+        return Some(hint);
+    }
     nodes.iter().position(|node| is_same_fact(&node.fact, fact))
+}
+
+// Which of the hints is the fact's.
+fn number_of(fact: &Fact) -> usize {
+    let cell = fact.cell.net as usize * MOST_CYCLES as usize + fact.cell.cycle as usize;
+    2 * cell + (fact.value % 2) as usize
+}
+
+// Hints that the fact's node is at the place.
+fn note(hints: &mut Vec<usize>, fact: &Fact, place: usize) {
+    let number = number_of(fact);
+    if number < hints.len() {
+        hints[number] = place;
+    }
+}
+
+// Hints where each node is.
+fn note_each(hints: &mut Vec<usize>, nodes: &[Node]) {
+    for (place, node) in nodes.iter().enumerate() {
+        note(hints, &node.fact, place);
+    }
+}
+
+/// A hint for each number.
+pub fn no_hints(alloc: Global) -> Result<Vec<usize>, AllocError> {
+    let mut hints = Vec::with_capacity(alloc, HINTS)?;
+    for _number in 0..HINTS {
+        hints.push(0)?;
+    }
+    Ok(hints)
 }
 
 // Drops the environments that contain the nogood.
@@ -78,6 +106,14 @@ fn has_support(node: &Node) -> bool
 }
 
 impl Nodes {
+    // Where the fact's node may be.
+    fn hint_of(&self, fact: &Fact) -> usize {
+        match self.hints.get(number_of(fact)) {
+            Some(place) => *place,
+            None => 0,
+        }
+    }
+
     /// The facts that were met.
     pub fn met(&self, alloc: Global) -> Result<Vec<Fact>, AllocError>
         ensures { IfOk result (λ met. met.items ≡ facts_of self.now.list.items) }
@@ -89,6 +125,9 @@ impl Nodes {
     pub fn is_met(&self, fact: &Fact) -> bool
         ensures { result ≡ list_any (λ n. is_same n.fact fact.now) self.now.list.items }
     {
+        if is_at(&self.list, self.hint_of(fact), fact) {
+            return true;
+        }
         self.list.iter().any(|node| is_same_fact(&node.fact, fact))
     }
 
@@ -96,7 +135,7 @@ impl Nodes {
     fn has_within(&self, fact: &Fact, env: &Env) -> bool
         ensures { IsTrue result ↔ IsCovered (KeptIn self.now (Some fact.now)) (members env.now) }
     {
-        match place_of(&self.list, fact) {
+        match place_of(&self.list, self.hint_of(fact), fact) {
             Some(place) => self.list[place].label.covers(env),
             None => false,
         }
@@ -117,6 +156,7 @@ impl Nodes {
 
     /// The fact is met, with an empty label. After an error all is as before.
     pub fn meet(&mut self, alloc: Global, fact: &Fact) -> Result<(), AllocError>
+        requires { IsMet self.old.list.items fact.now → ⊥ }
         ensures ok { OnOk result (self.new.list.items ≡ self.old.list.items ++ record { fact = fact.now; label = [] } ∷ []) }
         ensures err { OnErr result (self.new.list.items ≡ self.old.list.items) }
         ensures nogoods { self.new.nogoods ≡ self.old.nogoods }
@@ -125,7 +165,9 @@ impl Nodes {
             fact: *fact,
             label: Label::new(alloc),
         };
+        let place = self.list.len();
         self.list.push(node)?;
+        note(&mut self.hints, fact, place);
         Ok(())
     }
 
@@ -151,7 +193,7 @@ impl Nodes {
         ensures nogoods { self.new.nogoods ≡ self.old.nogoods }
         ensures facts { facts_of self.new.list.items ≡ facts_of self.old.list.items }
     {
-        let place = place_of(&self.list, fact).unwrap();
+        let place = place_of(&self.list, self.hint_of(fact), fact).unwrap();
         let node = &mut self.list[place];
         node.label.add(*env)?;
         Ok(())
@@ -177,7 +219,7 @@ impl Nodes {
     pub fn label(&self, fact: &Fact) -> Option<&Label>
         ensures { MatchOption result (label_in self.now.list.items fact.now ≡ []) (λ l. l.now ≡ label_in self.now.list.items fact.now) }
     {
-        match place_of(&self.list, fact) {
+        match place_of(&self.list, self.hint_of(fact), fact) {
             Some(place) => Some(&self.list[place].label),
             None => None,
         }
@@ -200,6 +242,7 @@ impl Nodes {
         ensures nogoods { self.new.nogoods ≡ self.old.nogoods }
     {
         self.list.retain(|node| has_support(node));
+        note_each(&mut self.hints, &self.list);
     }
 
     /// The environments that have the slot go, and then the facts that have no environment are met no more.

@@ -15,7 +15,7 @@ ghost use Rattle.label_engine.specs.Nodes.{facts_of};
 ghost use Rattle.label_engine.specs.Questions.{GivesNextNumber, HasLabel, HasInside, IsAbove, IsLeft, values_left, IsLeastOf, ArePairs, shown_as, IsLoadShown};
 
 use crate::engine::Engine;
-use crate::nodes::Node;
+use crate::node::Node;
 use circuit_model::{Cell, Fact};
 use environment_sets::Env;
 use inference_search::is_same_cell;

@@ -6,15 +6,12 @@ ghost use Rattle.inference_search.specs.declared.inferred.Inferred.{Inferred};
 ghost use Rattle.label_engine.specs.Update.{goes_from, is_made_at, is_met_or_none, is_still_met};
 ghost use Rattle.label_engine.specs.Records.{key, has_key, lies_on, second_shelf, AreBegun, AreShelved, IsPutLast};
 
-use crate::nodes::Nodes;
+use crate::keys::{SHELVES, key_of};
+use crate::node::Nodes;
 use circuit_model::Fact;
-use circuit_model::limits::MOST_NETS;
 use inference_search::Inferred;
 use std::alloc::{AllocError, Global};
 use std::marker::Model;
-
-/// How many keys there are: one for each net that there may be.
-pub const SHELVES: usize = MOST_NETS as usize;
 
 /// The inferences with a fact of one key; contracts see the list.
 #[derive(Drop)]
@@ -122,15 +119,6 @@ fn is_kept(inferred: &Inferred, nodes: &Nodes, slot: u16) -> bool
     !is_of(&inferred.maker, slot)
         && is_met(nodes, &inferred.first)
         && is_met(nodes, &inferred.second)
-}
-
-// The key of the fact: the number of its net. (The remainder alters no net that there may be.)
-#[tactic(auto, unfolding(crate::specs::Records::key))]
-fn key_of(fact: &Fact) -> usize
-    ensures key { result ≡ key fact.now }
-    ensures below { result < SHELVES }
-{
-    fact.cell.net as usize % SHELVES
 }
 
 // Whether there is a fact, and it has the key.

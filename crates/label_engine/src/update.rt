@@ -15,7 +15,7 @@ ghost use Rattle.label_engine.specs.Nodes.{facts_of, KeptIn, IsMet, EachDrops};
 ghost use Rattle.label_engine.specs.Update.{item_at, items_at, items_to, ends_in, some_fact, goes_from_none, due_with, items_with, items_from, other_fact, made_by, HasUnions, HasUnionsWith, HasMet, AreKeptAlike, IsPutThere, Propagates, DueAlso, WaitsAlso, CarriesOn, IsReady, BeginsUnions, AreKeptAt, IsAddedOrReached, Survives, before, IsAtRest, IsTakenBack, HasForgotten};
 ghost use Rattle.assumption_slots.specs.Slots.{stock};
 
-use crate::nodes::{Insertion, Nodes};
+use crate::node::{Insertion, Nodes};
 use crate::recording::{is_target, needed_of, record_all, uses};
 use crate::records::Records;
 use assumption_slots::Slots;

@@ -2,7 +2,7 @@ use Rattle.std.proofs.Common.{◌≡◌, ◌+◌, List, [], ◌∷◌, ◌++◌,
 use Rattle.std.proofs.lemmas.List.{take_more}
 use Rattle.environment_sets.specs.Lists.{AreDistinct}
 use Rattle.environment_sets.specs.Members.{members}
-use Rattle.label_engine.specs.declared.nodes.Node.{Node}
+use Rattle.label_engine.specs.declared.node.Node.{Node}
 use Rattle.label_engine.specs.Nodes.{facts_of}
 use Rattle.label_engine.specs.Questions.{ArePairs}
 use Rattle.label_engine.proofs.Counts.{none_before, once_front, pairs_more, shown_more}

@@ -2,7 +2,7 @@ use Rattle.std.proofs.Common.{◌≡◌, ◌+◌, Option, ℕ, List, [], ◌∷�
 use Rattle.std.proofs.lemmas.Bool.{both_ways}
 use Rattle.std.proofs.lemmas.List.{take_more}
 use Rattle.environment_sets.specs.Members.{members}
-use Rattle.label_engine.specs.declared.nodes.Node.{Node}
+use Rattle.label_engine.specs.declared.node.Node.{Node}
 use Rattle.label_engine.specs.Engine.{kept_of}
 use Rattle.label_engine.specs.Questions.{GivesNextNumber, HasInside}
 use Rattle.label_engine.proofs.Values.{none_found, passed_over, taken_in}

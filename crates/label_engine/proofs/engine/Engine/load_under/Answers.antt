@@ -1,7 +1,7 @@
 use Rattle.std.proofs.Common.{◌+◌, List, ap, sym, subst, ◌∙◌}
 use Rattle.environment_sets.specs.Lists.{AreDistinct}
 use Rattle.environment_sets.specs.Members.{members}
-use Rattle.label_engine.specs.declared.nodes.Node.{Node}
+use Rattle.label_engine.specs.declared.node.Node.{Node}
 use Rattle.label_engine.specs.Engine.{Seen}
 use Rattle.label_engine.specs.Nodes.{facts_of, label_in}
 use Rattle.label_engine.proofs.Asked.{IsExact, is_exact, label_is, load_of}

@@ -1,4 +1,4 @@
-use Rattle.label_engine.proofs.nodes.Nodes.put.Goals as goal
+use Rattle.label_engine.proofs.node.Nodes.put.Goals as goal
 
 pub returns-in-Some-clause-ok : goal.returns-in-Some-clause-ok
 returns-in-Some-clause-ok c = rw c.in-Some.is c.put_at.ensures.ok

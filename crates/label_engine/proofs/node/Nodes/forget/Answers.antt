@@ -1,8 +1,8 @@
 use Rattle.std.proofs.Common.{IsTrue, subst, List, arith}
 use Rattle.std.proofs.lemmas.List.{take_all}
-use Rattle.label_engine.specs.declared.nodes.Node.{Node}
+use Rattle.label_engine.specs.declared.node.Node.{Node}
 use Rattle.label_engine.specs.Nodes.{EachDrops}
-use Rattle.label_engine.proofs.nodes.Nodes.forget.Goals as goal
+use Rattle.label_engine.proofs.node.Nodes.forget.Goals as goal
 
 pub returns-clause-labels : goal.returns-clause-labels
 returns-clause-labels c =

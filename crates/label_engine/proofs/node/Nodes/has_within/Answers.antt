@@ -1,6 +1,7 @@
-use Rattle.std.proofs.Common.{◌≡◌, position, Some, None, sym, true≢false, ◌∙◌}
+use Rattle.std.proofs.Common.{◌≡◌, position, Some, None, sym, true≢false, ◌∙◌, subst}
 use Rattle.label_engine.proofs.Labelled.{is_at, label_at, label_none}
-use Rattle.label_engine.proofs.nodes.Nodes.has_within.Goals as goal
+use Rattle.label_engine.specs.Nodes.{AreOnce}
+use Rattle.label_engine.proofs.node.Nodes.has_within.Goals as goal
 
 pub returns-in-Some : goal.returns-in-Some
 returns-in-Some c =
@@ -11,3 +12,6 @@ pub returns-in-None : goal.returns-in-None
 returns-in-None c =
     let at : position (is_at c.args.fact.now) c.args.self.now.list.items ≡ None = rw (← c.deref.ensures.value) (sym c.place_of.ensures ∙ c.in-None.is) in
     rw (label_none c.args.self.now.list.items c.args.fact.now at) ((λ h. absurd (true≢false (sym h))), (λ h. absurd h.1))
+
+pub place_of-requires : goal.place_of-requires
+place_of-requires c = subst AreOnce (sym c.deref.ensures.value) c.args.self.now.once
