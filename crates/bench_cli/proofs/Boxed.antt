@@ -6,7 +6,7 @@ use Rattle.circuit_model.specs.Diagnoses.{IsConflict, IsDiagnosis}
 use Rattle.circuit_model.specs.Present.{PresentView, circuit_of}
 use Rattle.circuit_model.specs.Probe.{positions_in, AreConflicts}
 use Rattle.environment_sets.specs.Counts.{AreSoMany}
-use Rattle.environment_sets.specs.Lists.{IsRising, IsStrict, AreDistinct, IsListing}
+use Rattle.environment_sets.specs.Lists.{IsStrict, IsListing}
 use Rattle.environment_sets.specs.Members.{members, sets}
 use Rattle.environment_sets.specs.declared.environment.Env.{Env}
 use Rattle.environment_sets.proofs.CostOrder.{cost_order_is_strict}

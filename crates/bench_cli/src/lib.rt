@@ -13,9 +13,8 @@ mod turn;
 mod words;
 mod writing;
 
-pub use crate::session::run;
-
 use crate::making::make;
+pub use crate::session::run;
 use crate::words::{boxes_of, is_make, is_ordered_run, is_plain_run, picker_of, seed_of};
 use bench_io::{Sink, Source, write_all};
 use propagation_agenda::Oldest;

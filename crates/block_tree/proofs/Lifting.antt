@@ -18,7 +18,7 @@ use Rattle.circuit_model.specs.declared.model.Assumption.TheVariants.{Part, Read
 use Rattle.circuit_model.specs.declared.blocks.Inner.{Inner}
 use Rattle.circuit_model.specs.declared.present.Component.{Component}
 use Rattle.circuit_model.specs.declared.present.Net.{Net}
-use Rattle.circuit_model.specs.Closure.{fact, IsForced, IsRefuted, Holds, ClashesAt, Clashes}
+use Rattle.circuit_model.specs.Closure.{fact}
 use Rattle.circuit_model.specs.Kinds.{block_in}
 use Rattle.circuit_model.specs.Stock.{IsChosen}
 use Rattle.circuit_model.specs.Diagnoses.{Place, AtPart, AtCell, stock_of, with_readings, AreRefuted}

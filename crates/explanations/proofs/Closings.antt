@@ -1,5 +1,5 @@
 -- What a closing lists.
-use Rattle.std.proofs.Common.{◌≡◌, ◌≢◌, ℕ, zero, suc, ◌<◌, ◌≤◌, ◌⊎◌, inl, inr, List, [], ◌∷◌, Option, Some, None, refl, sym, ap, ap₂, subst, ◌∙◌, arith}
+use Rattle.std.proofs.Common.{◌≡◌, ◌≢◌, ℕ, zero, suc, ◌<◌, ◌≤◌, ◌⊎◌, inl, inr, List, [], ◌∷◌, Option, Some, None, refl, sym, ap, subst, ◌∙◌, arith}
 use Rattle.std.proofs.lemmas.Bool.{cases_lt, cases_eq}
 use Rattle.environment_sets.specs.Sets.{Set}
 use Rattle.environment_sets.specs.Lists.{IsIn}
@@ -9,7 +9,7 @@ use Rattle.circuit_model.specs.Closure.{fact, ClashesAt}
 use Rattle.circuit_model.specs.Diagnoses.{Place}
 use Rattle.circuit_model.specs.Derivation.{IsAssumed, HoldsAt, IsRoundOf}
 use Rattle.circuit_model.specs.Present.{PresentView, IsLawful, circuit_of}
-use Rattle.circuit_model.proofs.SameCells.{same_or_other, fact_by, same_or_other_fact}
+use Rattle.circuit_model.proofs.SameCells.{fact_by, same_or_other_fact}
 use Rattle.circuit_model.proofs.Rounds.{Holds-later}
 use Rattle.proof_check.specs.declared.derivation.Ending.{Ending}
 use Rattle.proof_check.specs.Closing.{Timed, ClosedView, EndsAt, Closes}

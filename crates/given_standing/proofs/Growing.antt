@@ -1,7 +1,5 @@
 -- Presents with one component or one measurement more, from the first ones on.
 use Rattle.std.proofs.Common.{◌≡◌, ℕ, zero, suc, ◌+◌, ◌≤◌, inl, inr, false, IsTrue, List, [], ◌∷◌, ◌++◌, length, take, take_all, slice_get, Some, None, refl, sym, ap, subst, ◌∙◌, arith}
-use Rattle.std.proofs.lemmas.List.{take_more}
-use Rattle.std.proofs.lemmas.Option.{get_or_from_slice_get, slice_get_within}
 use Rattle.std.proofs.lemmas.Bool.Decides.{nat_tests}
 use Rattle.circuit_model.specs.declared.model.Assumption.TheVariants.{Part, Reading}
 use Rattle.circuit_model.specs.declared.model.Cell.{Cell}

@@ -1,10 +1,10 @@
 -- What records and lanes keep.
-use Rattle.std.proofs.Common.{◌≡◌, ◌≢◌, ℕ, ◌+◌, ◌<◌, ◌≤◌, inl, inr, refl, sym, ap, subst, ◌∙◌, List, length, get_or, set, Option, Some, None, IsSome, true≢false, arith, get_or-set_same, get_or-set_other}
+use Rattle.std.proofs.Common.{◌≡◌, ◌≢◌, ℕ, ◌+◌, ◌<◌, ◌≤◌, inl, inr, refl, sym, ap, subst, ◌∙◌, List, length, get_or, set, Option, Some, None, IsSome, arith, get_or-set_same, get_or-set_other}
 use Rattle.environment_sets.specs.Lists.{IsIn}
 use Rattle.index_lists.specs.Lists.{Lists, list_at, AreSame, Changes}
 use Rattle.index_lists.specs.Chains.{no_lists}
 use Rattle.index_lists.specs.Kept.{lane_of, IsWider, AreKept}
-use Rattle.index_lists.proofs.Links.{same_or_not, none_is_no_some}
+use Rattle.index_lists.proofs.Links.{same_or_not}
 use Rattle.environment_sets.proofs.Listings.{none_is_not}
 
 module _ {T : Type 0} (records : List (Option T)) (lanes lanes' : List Lists) (lane : ℕ) (kept : AreKept records lanes) (long : length lanes' ≡ length lanes) (others : (l : ℕ) → l ≢ lane → lane_of lanes' l ≡ lane_of lanes l) where

@@ -4,7 +4,7 @@ use Rattle.circuit_model.specs.declared.model.Cell.{Cell}
 use Rattle.circuit_model.specs.declared.model.Fact.{Fact}
 use Rattle.circuit_model.specs.declared.model.Instance.{Instance}
 use Rattle.circuit_model.specs.Inference.{ports_of, IsOfPorts}
-use Rattle.circuit_model.specs.Closure.{fact, AreHeld}
+use Rattle.circuit_model.specs.Closure.{AreHeld}
 use Rattle.environment_sets.specs.Lists.{IsIn}
 use Rattle.inference_search.specs.declared.inferred.Inferred.{Inferred}
 use Rattle.inference_search.specs.Choices.{AreAlike, Uses, IsTold, AreAllDone, IsDoneFrom, AreTries, AreChoices}

@@ -4,7 +4,7 @@ use Rattle.std.specs.List.{flat_map}
 use denote.Ref.{Bor}
 use Rattle.std.proofs.lemmas.List.{append-nil, take_more, map-append}
 use Rattle.std.proofs.lemmas.List.Concat.{flat_map-append}
-use Rattle.std.proofs.lemmas.Option.{get_or_from_slice_get, slice_get_within, slice_get-get_or}
+use Rattle.std.proofs.lemmas.Option.{slice_get-get_or}
 use Rattle.bench_io.specs.Puts.{Puts}
 use Rattle.bench_io.specs.Streams.{Telling}
 use Rattle.bench_io.proofs.PutParts.{Puts-then, Puts-as}

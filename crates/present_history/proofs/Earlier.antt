@@ -1,14 +1,14 @@
 -- The earlier presents.
-use Rattle.std.proofs.Common.{◌≡◌, ℕ, zero, suc, ◌≤◌, ◌⊎◌, inl, inr, Bool, true, false, ◌||◌, ◌==◌, List, [], ◌∷◌, length, take, slice_get, Option, Some, None, refl, sym, ap, ap₂, subst, ◌∙◌, arith}
+use Rattle.std.proofs.Common.{◌≡◌, ℕ, zero, suc, ◌≤◌, ◌⊎◌, inl, inr, Bool, true, false, ◌||◌, ◌==◌, List, [], ◌∷◌, length, take, slice_get, Option, Some, None, refl, sym, ap, subst, ◌∙◌, arith}
 use Rattle.std.specs.List.{cons_option, list_any}
 use Rattle.std.specs.Option.{option_map_or}
-use Rattle.std.proofs.lemmas.Bool.{or_left, or_right, and_parts, and_from, eqb-true, eq-eqb}
+use Rattle.std.proofs.lemmas.Bool.{or_left, or_right}
 use Rattle.std.proofs.lemmas.Option.{same_Some}
 use Rattle.environment_sets.specs.Lists.{IsIn}
 use Rattle.circuit_model.specs.declared.model.Fact.{Fact}
 use Rattle.circuit_model.specs.Blocks.{BlockView}
 use Rattle.circuit_model.specs.Closure.{fact}
-use Rattle.circuit_model.specs.Present.{PresentView, is_cell, block_at, without_last, IsLawful, is_fact}
+use Rattle.circuit_model.specs.Present.{PresentView, block_at, without_last, IsLawful, is_fact}
 use Rattle.circuit_model.proofs.SameCells.{same_fact, fact_itself}
 use Rattle.circuit_model.proofs.Presents.{IsLawful-without_last, IsLawful-with_cycles}
 use Rattle.circuit_model.proofs.PresentChanges.{IsLawful-with_cost, IsLawful-without_last_mode, IsLawful-without_last_net, IsLawful-without_last_block, IsLawful-change_block, lawful_without_last_pin, lawful_without_last_inner}

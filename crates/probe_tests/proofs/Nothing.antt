@@ -1,5 +1,5 @@
 -- A present without components and measurements, and its one diagnosis.
-use Rattle.std.proofs.Common.{◌≡◌, ℕ, ◌<◌, inl, inr, not, nat_lt, IsTrue, true≢false, [], ◌∷◌, length, map, Option, Some, None, IsSome, sym, ap, subst, arith}
+use Rattle.std.proofs.Common.{◌≡◌, ℕ, ◌<◌, inl, inr, not, nat_lt, IsTrue, true≢false, [], ◌∷◌, length, map, Some, None, sym, ap, subst, arith}
 use Rattle.std.proofs.lemmas.Bool.{and_parts, ltb-true}
 use Rattle.circuit_model.specs.Diagnoses.{IsDiagnosis}
 use Rattle.circuit_model.specs.Present.{PresentView, circuit_of}

@@ -1,7 +1,7 @@
 -- Facts that are put with others, one after another.
 use Rattle.std.proofs.Common.{◌≡◌, ◌↔◌, ℕ, ◌+◌, ◌<◌, ◌≤◌, ◌⊎◌, inl, inr, IsTrue, List, [], ◌∷◌, ◌++◌, length, take, map, Some, slice_get, sym, ap, subst, ◌∙◌, append_assoc, ap₂, arith}
-use Rattle.std.proofs.lemmas.List.{take_more, length-take, map-append}
-use Rattle.std.proofs.lemmas.Option.{slice_get_within, get_or_from_slice_get}
+use Rattle.std.proofs.lemmas.List.{length-take, map-append}
+use Rattle.std.proofs.lemmas.Option.{slice_get_within}
 use Rattle.environment_sets.specs.Lists.{IsIn}
 use Rattle.environment_sets.proofs.Listings.{IsIn-push, IsIn-front, IsIn-last, take_one_more}
 use Rattle.environment_sets.proofs.Membership.{IsIn-slice_get, slice_get-IsIn}

@@ -1,9 +1,7 @@
 -- The measurements that are parked, after a change and once it is taken back.
-use Rattle.std.proofs.Common.{◌≡◌, ◌⊎◌, ℕ, ◌==◌, inl, inr, Bool, true, false, not, cond, IsTrue, List, ◌∷◌, Option, Some, None, refl, sym, ap, ap₂, subst, ◌∙◌, arith}
+use Rattle.std.proofs.Common.{◌≡◌, ◌⊎◌, ℕ, ◌==◌, inl, inr, Bool, true, false, not, cond, IsTrue, List, ◌∷◌, Option, Some, None, refl, sym, ap, subst, ◌∙◌, arith}
 use Rattle.std.specs.Option.{option_map_or}
 use Rattle.std.proofs.lemmas.Bool.Decides.{nat_tests}
-use Rattle.circuit_model.specs.Closure.{fact}
-use Rattle.circuit_model.specs.declared.model.Cell.{Cell}
 use Rattle.circuit_model.specs.declared.model.Fact.{Fact}
 use Rattle.circuit_model.specs.Present.{PresentView, is_cell, reading_in, with_standing}
 use Rattle.circuit_model.proofs.SameCells.{same_cell, cell_itself, fact_by, same_or_other_fact}

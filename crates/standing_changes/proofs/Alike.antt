@@ -1,13 +1,8 @@
 -- Lists of parked readings that have the same elements.
-use Rattle.std.proofs.Common.{◌≡◌, ◌↔◌, ◌==◌, ◌⊎◌, inl, inr, Bool, true, false, not, IsTrue, List, ◌∷◌, refl, sym, ap₂, subst, arith}
-use Rattle.std.proofs.lemmas.Bool.{not-true, and_parts, and_from}
-use Rattle.std.proofs.lemmas.Bool.Decides.{nat_tests}
-use Rattle.circuit_model.specs.declared.model.Cell.{Cell}
+use Rattle.std.proofs.Common.{◌≡◌, ◌↔◌, ◌==◌, ◌⊎◌, inl, inr, List, ◌∷◌, sym, subst}
 use Rattle.circuit_model.specs.declared.model.Fact.{Fact}
-use Rattle.circuit_model.specs.Present.{is_cell}
 use Rattle.circuit_model.proofs.SameCells.{same_or_other_fact}
 use Rattle.environment_sets.specs.Lists.{IsIn}
-use Rattle.environment_sets.proofs.Listings.{IsIn-filter, IsIn-kept}
 use Rattle.standing_view.specs.View.{without_fact}
 use Rattle.standing_view.proofs.Parked.{is_other, among_others}
 

@@ -1,5 +1,5 @@
 -- Lists of all diagnoses: their length, and where their elements are.
-use Rattle.std.proofs.Common.{◌≡◌, ℕ, ◌<◌, ◌≤◌, ◌⊎◌, inl, inr, List, [], ◌∷◌, length, map, refl, sym, ap, subst, arith}
+use Rattle.std.proofs.Common.{◌≡◌, ℕ, ◌<◌, ◌≤◌, ◌⊎◌, inl, inr, List, [], ◌∷◌, length, map, refl, ap, arith}
 use Rattle.std.proofs.lemmas.List.{length-map}
 use Rattle.circuit_model.specs.declared.limits.TheConstants.{MOST_DIAGNOSES}
 use Rattle.circuit_model.specs.declared.model.Fact.{Fact}
@@ -10,7 +10,6 @@ use Rattle.circuit_model.specs.Probe.{positions_in, AreDiagnoses}
 use Rattle.circuit_model.specs.Stock.{Stock}
 use Rattle.environment_sets.specs.declared.environment.Env.{Env}
 use Rattle.environment_sets.specs.Costs.{ComesBeforeByCost}
-use Rattle.environment_sets.specs.Lists.{IsRising, IsStrict, AreDistinct}
 use Rattle.environment_sets.specs.Members.{members, sets}
 use Rattle.environment_sets.specs.Sets.{Set}
 use Rattle.environment_sets.proofs.CostOrder.{cost_order_is_strict}
