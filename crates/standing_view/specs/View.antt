@@ -5,7 +5,7 @@ use Rattle.circuit_model.specs.declared.model.Fact.{Fact}
 use Rattle.circuit_model.specs.declared.model.Assumption.TheVariants.{Part, Reading}
 use Rattle.circuit_model.specs.Stock.{Stock}
 use Rattle.circuit_model.specs.Diagnoses.{Place, AtPart, AtCell}
-use Rattle.circuit_model.specs.Present.{PresentView, is_fact}
+use Rattle.circuit_model.specs.Present.{PresentView, is_cell, is_fact}
 use Rattle.circuit_model.specs.Renaming.{along}
 use Rattle.circuit_model.specs.Whole.{places_in_order}
 use Rattle.environment_sets.specs.declared.environment.TheConstants.{SLOTS}
