@@ -4,7 +4,7 @@ use Rattle.circuit_model.specs.declared.model.Fact.{Fact}
 use Rattle.circuit_model.proofs.SameCells.{same_or_other_fact}
 use Rattle.environment_sets.specs.Lists.{IsIn}
 use Rattle.standing_view.specs.View.{without_fact}
-use Rattle.standing_view.proofs.Parked.{is_other, among_others}
+use Rattle.standing_view.proofs.Parked.{IsOther, is_other, among_others}
 
 -- each reading stands in both lists or in neither
 abbrev pub AreAlike : List Fact → List Fact → Type 0
