@@ -8,7 +8,8 @@ use Rattle.present_history.specs.declared.undoing.Undoing.{Undoing}
 use Rattle.present_history.specs.Earlier.{measures, retracted, retracted_by}
 use Rattle.present_history.proofs.Earlier.{IsDropped, first_in, later_in, retracted-taken, retracted-dropped}
 use Rattle.standing_view.specs.View.{without_fact}
-use Rattle.standing_changes.proofs.Alike.{AreAlike, is_other, among_others}
+use Rattle.standing_view.proofs.Parked.{is_other, among_others}
+use Rattle.standing_changes.proofs.Alike.{AreAlike}
 use Rattle.session_undo.specs.Remembering.{parked}
 use Rattle.session_undo.proofs.Parked.{aside, is_parked}
 
