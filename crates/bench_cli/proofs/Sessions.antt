@@ -17,7 +17,8 @@ use Rattle.bench_cli.specs.Answering.{IsReply}
 use Rattle.bench_cli.specs.Turns.{Steps, ReadSofar, Cuts, CountsEnding, status_at, tally_after}
 use Rattle.bench_cli.specs.Session.{ReadsAll, ReadsTo, ReadsMost, ReadsSome, WhereTold, AnswersAll, Outcome, WritesPart}
 use Rattle.bench_cli.specs.Statuses.{status_by}
-use Rattle.bench_cli.specs.declared.Status.TheVariants.{ReadFault}
+use Rattle.bench_io.specs.Causes.{Rose}
+use Rattle.bench_cli.specs.declared.Status.TheVariants.{ReadFault, WriteFault}
 use Rattle.bench_cli.specs.declared.session.Tally.{Tally}
 use Rattle.bench_cli.specs.declared.session.Ending.{Ending}
 use Rattle.bench_cli.specs.declared.session.Ending.TheVariants as ending
@@ -256,3 +257,26 @@ pub failed_read : (why : Ending) (t : Tally) (a b c : ℕ) → b ≡ a → Count
 failed_read ending.End t a b c kept cause more = absurd (omega arith)
 failed_read ending.Failed t a b c kept cause more = refl
 failed_read ending.TooMuch t a b c kept cause more = absurd (omega arith)
+
+-- one that was read to its end has no fault
+no_read_fault : {A : Type 0} (no_memory refused : Bool) → status_by no_memory refused ≡ ReadFault → A
+no_read_fault true refused e = cc
+no_read_fault false true e = cc
+no_read_fault false false e = cc
+
+no_write_fault : {A : Type 0} (no_memory refused : Bool) → status_by no_memory refused ≡ WriteFault → A
+no_write_fault true refused e = cc
+no_write_fault false true e = cc
+no_write_fault false false e = cc
+
+-- where a failed read is told, the count rose
+pub read_failed : (why : Ending) (t : Tally) (a b c : ℕ) → b ≡ a → CountsEnding b c (Err why) → status_at why t ≡ ReadFault → Rose a c
+read_failed ending.End t a b c kept cause e = no_read_fault t.no_memory t.refused e
+read_failed ending.Failed t a b c kept cause e = let P : ℕ → Type 0 = λ n. Rose n c in subst P kept cause
+read_failed ending.TooMuch t a b c kept cause e = cc
+
+-- no ending tells of a failed write
+pub never_written : {A : Type 0} (why : Ending) (t : Tally) → status_at why t ≡ WriteFault → A
+never_written ending.End t e = no_write_fault t.no_memory t.refused e
+never_written ending.Failed t e = cc
+never_written ending.TooMuch t e = cc

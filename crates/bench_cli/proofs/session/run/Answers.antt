@@ -4,7 +4,7 @@ use Rattle.bench_cli.specs.Replies.{Exchange}
 use Rattle.bench_cli.specs.Turns.{ReadSofar}
 use Rattle.session_undo.specs.Presents.{State}
 use Rattle.bench_cli.proofs.Causes.{too_much_exactly}
-use Rattle.bench_cli.proofs.Sessions.{begun, stepped, ahead_falls, reads_some, outcome_of, writes_part, writes_whole, noted_refused, noted_no_memory, failed_read}
+use Rattle.bench_cli.proofs.Sessions.{begun, stepped, ahead_falls, reads_some, outcome_of, writes_part, writes_whole, noted_refused, noted_no_memory, failed_read, read_failed, never_written}
 use Rattle.bench_cli.proofs.session.run.Goals as goal
 
 pub loop-answer-init : goal.loop-answer-init
@@ -101,3 +101,10 @@ returns-in-Err-step-clause-source_later g c = omega (arith, c.in-Err-step.ensure
 
 pub returns-in-Err-step-clause-sink_later : goal.returns-in-Err-step-clause-sink_later
 returns-in-Err-step-clause-sink_later g c = omega (arith, c.loop-answer.invariant.kept)
+
+pub returns-in-Err-step-clause-read_fault : goal.returns-in-Err-step-clause-read_fault
+returns-in-Err-step-clause-read_fault g c =
+    λ e. read_failed c.in-Err-step.ending c.loop-answer.tally _ _ _ c.loop-answer.invariant.read.kept c.in-Err-step.ensures.cause (sym c.status_at.ensures ∙ e)
+
+pub returns-in-Err-step-clause-write_fault : goal.returns-in-Err-step-clause-write_fault
+returns-in-Err-step-clause-write_fault g c = λ e. never_written c.in-Err-step.ending c.loop-answer.tally (sym c.status_at.ensures ∙ e)
