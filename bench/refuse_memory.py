@@ -5,9 +5,9 @@ back and measures again; and compares.
     bench/refuse_memory.py [SESSION]      without SESSION, one on the polybox
 
 A line that is answered `no 90 no memory` must be as if it were not there: the other replies are those of the session
-without it. Where opening finds no memory, nothing is read and nothing written, and the exit status is 6. A library that
-counts and refuses is compiled and loaded before the C library, so this needs a C compiler, and is no part of what
-`.ci/run` tries.
+without it. Where the words of the command line or opening find no memory, nothing is read and nothing written, and the
+exit status is 7 or 6. A library that counts and refuses is compiled and loaded before the C library, so this needs a C
+compiler, and is no part of what `.ci/run` tries.
 """
 import os
 import subprocess
@@ -111,7 +111,7 @@ def main():
         wrong = opening = 0
         for refused in range(1, most + 1):
             status, told, _ = run(refuser, room, lines, refused)
-            if status == 6 and not told:
+            if status in (6, 7) and not told:
                 opening += 1
                 continue
             replies = replies_of(lines, told)
