@@ -14,3 +14,4 @@ pub mod Signed
 pub mod Left
 pub mod Membership
 pub mod Sorting
+pub mod Elements

@@ -26,7 +26,7 @@ pub struct Env {
 
 impl Env {
     ghost use Rattle.std.specs.Prelude.{◌↔◌, IsTrue};
-    ghost use Rattle.environment_sets.specs.Sets.{no_elements, only, size_below, is_within, ◌∪◌, ◌∩◌, ◌∖◌, ◌⊆◌};
+    ghost use Rattle.environment_sets.specs.Sets.{no_elements, only, size_below, is_within, Hits, ◌∪◌, ◌∩◌, ◌∖◌, ◌⊆◌};
     ghost use Rattle.environment_sets.specs.Members.{members};
     ghost use Rattle.environment_sets.specs.Orders.{compare_in, by_first, ListsAll, IsOrder};
     ghost use Rattle.environment_sets.specs.Signatures.{signature, IsSignature};
@@ -69,6 +69,17 @@ impl Env {
         Env { words }
     }
 
+    /// The slots of this environment that the other lacks.
+    pub fn outside(self, other: Env) -> Env
+        ensures { members result ≡ members self ∖ members other }
+    {
+        let mut words = self.words;
+        for i in 0..WORDS {
+            words[i] = self.words[i] & !other.words[i];
+        }
+        Env { words }
+    }
+
     /// The slots of both environments.
     pub fn meet(self, other: Env) -> Env
         ensures { members result ≡ members self ∩ members other }
@@ -93,6 +104,18 @@ impl Env {
             }
         }
         true
+    }
+
+    /// Whether the two share a slot.
+    pub fn meets(&self, other: &Env) -> bool
+        ensures { IsTrue result ↔ Hits (members self.now) (members other.now) }
+    {
+        for i in 0..WORDS {
+            if self.words[i] & other.words[i] != 0 {
+                return true;
+            }
+        }
+        false
     }
 
     /// Whether the slot, which is below [`SLOTS`], is one of the environment.

@@ -6,7 +6,6 @@ ghost use Rattle.first_diagnoses.specs.Weights.{weight_in, IsProblem};
 ghost use Rattle.first_diagnoses.specs.Branches.{IsBranch, IsSought, IsBound};
 
 use crate::branch::Branch;
-use crate::own::share;
 use crate::problem::{Problem, lightest, weight_of};
 use environment_sets::Env;
 
@@ -45,14 +44,14 @@ fn with_conflict(problem: &Problem, branch: &Branch, bound: &Bound, conflict: &E
     requires conflict { HasMember problem.now.conflicts.now (members conflict.now) }
     ensures { MatchOption result ((D : Set ℕ) → IsSought problem.now branch.now D → ⊥) (IsBound problem.now branch.now) }
 {
-    if share(&branch.chosen, conflict) {
+    if branch.chosen.meets(conflict) {
         return Some(*bound);
     }
-    if !share(&branch.open, conflict) {
+    if !branch.open.meets(conflict) {
         return None;
     }
     let open = branch.open.meet(*conflict);
-    if share(&bound.taken, &open) {
+    if bound.taken.meets(&open) {
         return Some(*bound);
     }
     let lightest = lightest(problem, &open, branch.place);

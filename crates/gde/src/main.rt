@@ -5,6 +5,7 @@
 use bench_cli::{CommandLine, exit_number};
 use bench_io::{StdSink, StdSource};
 use std::env;
+use std::io::LineWriter;
 use std::process::ExitCode;
 
 // The words after the program's own name.
@@ -18,9 +19,18 @@ fn command_line(rt: &HostRuntime) -> CommandLine {
     }
 }
 
+// The replies are written a line at a time. Where there is no room for a line, it is as if there were none for the words.
 fn main(rt: HostRuntime) -> ExitCode {
-    let command_line = command_line(&rt);
     let mut source = StdSource::new(rt.stdin());
-    let mut sink = StdSink::new(rt.stdout());
-    ExitCode::from(exit_number(rt.alloc(), &command_line, &mut source, &mut sink))
+    let number = match LineWriter::new(rt.alloc(), rt.stdout()) {
+        Ok(writer) => {
+            let command_line = command_line(&rt);
+            exit_number(rt.alloc(), &command_line, &mut source, &mut StdSink::new(writer))
+        }
+        Err(_) => {
+            let mut sink = StdSink::new(rt.stdout());
+            exit_number(rt.alloc(), &CommandLine::NotKept, &mut source, &mut sink)
+        }
+    };
+    ExitCode::from(number)
 }

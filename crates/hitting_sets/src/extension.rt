@@ -1,7 +1,7 @@
 // From the minimal hitting sets of some conflicts to those of one conflict more.
-ghost use Rattle.std.specs.Prelude.{◌≡◌, ◌↔◌, ◌<◌, IsTrue, IfOk, OnOk, if◌then◌else◌, ◌++◌, ◌∷◌, []};
+ghost use Rattle.std.specs.Prelude.{◌≡◌, ◌<◌, IsTrue, IfOk, OnOk, if◌then◌else◌, ◌++◌, ◌∷◌, []};
 ghost use Rattle.environment_sets.specs.declared.environment.TheConstants.{SLOTS};
-ghost use Rattle.environment_sets.specs.Sets.{only, ◌∪◌, Hits, HitsEach};
+ghost use Rattle.environment_sets.specs.Sets.{only, ◌∪◌, HitsEach};
 ghost use Rattle.environment_sets.specs.Members.{members, HasMember};
 ghost use Rattle.environment_sets.specs.Lists.{IsRoster};
 ghost use Rattle.hitting_sets.specs.Hitting.{IsMinimalFor, AreMinimalFor, ComesFrom, Adds};
@@ -41,7 +41,7 @@ fn add_from(
     requires slots { IsRoster (λ k. IsTrue (members conflict.now k)) slots.now }
     ensures { OnOk result (Adds (λ D. IsMinimalFor (before.now ++ conflict.now ∷ []) D × ComesFrom (members conflict.now) (members set.now) D) found.old.items found.new.items) }
 {
-    if share(set, conflict) {
+    if set.meets(conflict) {
         found.push(*set)?;
         return Ok(());
     }
@@ -69,13 +69,6 @@ fn add_wider(
         return Ok(());
     }
     Ok(())
-}
-
-// Whether the two share a slot.
-fn share(a: &Env, b: &Env) -> bool
-    ensures { IsTrue result ↔ Hits (members a.now) (members b.now) }
-{
-    a.meet(*b).size() > 0
 }
 
 // The slots of the environment, each once.

@@ -9,3 +9,4 @@ mod own;
 
 pub use hitter::Hitter;
 pub use laws::minimal_by_own;
+pub use own::own_slots;

@@ -16,8 +16,8 @@ pub fn is_minimal(before: &[Env], conflict: &Env, set: &Env) -> bool
     set.is_subset(&own)
 }
 
-// The slots of the set that hit some conflict alone.
-fn own_slots(conflicts: &[Env], set: &Env) -> Env
+/// The slots of the set that each hit some conflict alone. A hitting set is minimal exactly where all of its slots do.
+pub fn own_slots(conflicts: &[Env], set: &Env) -> Env
     ensures { (k : ℕ) → IsTrue (members result k) ↔ HasOwn (HasMember conflicts.now) (members set.now) k }
 {
     let mut own = Env::empty();

@@ -20,15 +20,15 @@ loop-conflict-preserved c =
     let item = c.conflict-item.result in
     let P : List Env → Type 0 = λ es. HitsEach (HasMember es) (members c.args.set.now) in
     subst P (sym (take_item conflicts i item c.loop-conflict-test.true c.conflict-item.is))
-    (hits_more (sets (take i conflicts)) (members item) _ (has_more (take i conflicts) item) (members c.args.set.now) c.loop-conflict.invariant (c.share.ensures.0 c.if-not-share.false))
+    (hits_more (sets (take i conflicts)) (members item) _ (has_more (take i conflicts) item) (members c.args.set.now) c.loop-conflict.invariant (c.meets.ensures.0 c.if-not-meets.false))
 
-pub returns-then-not-share : goal.returns-then-not-share
-returns-then-not-share c = (
+pub returns-then-not-meets : goal.returns-then-not-meets
+returns-then-not-meets c = (
   λ is. absurd (false≢true is),
   λ hits.
       let there : HasMember c.args.conflicts.now (members c.conflict-item.result) =
       map-IsIn members c.args.conflicts.now c.conflict-item.result (IsIn-at c.args.conflicts.now c.loop-conflict.conflict-index c.conflict-item.result c.loop-conflict-test.true c.conflict-item.is) in
-      absurd (both_ways c.share.result c.if-not-share.true (c.share.ensures.1 (hits (members c.conflict-item.result) there))),
+      absurd (both_ways c.meets.result c.if-not-meets.true (c.meets.ensures.1 (hits (members c.conflict-item.result) there))),
 )
 
 pub returns : goal.returns
