@@ -1,8 +1,6 @@
-// Names, instances and small circuits, with values worked out by hand, and presents at their limits.
+// Names, and instances over cycles, with values worked out by hand.
 
-use circuit_model::{Cell, Instance, Kind, Name, Named, Part, Present, Prim, instances_of, limits};
-use given_presents::present_of;
-use std::alloc::Global;
+use circuit_model::{Cell, Instance, Kind, Name, Part, Prim, instances_of, limits};
 use std::test::Fail;
 use word_domain::Width;
 
@@ -55,62 +53,5 @@ fn sums_over_cycles(rt: HostRuntime) -> Result<(), Fail> {
         let copy = part.copy(rt.alloc())?;
         assert!(rt; has_sums(&copy, width, cycles));
     }
-    Ok(())
-}
-
-fn finds(present: &Present, bytes: &[u8], wanted: Option<Named>) -> bool {
-    match Name::new(bytes) {
-        Some(name) => present.find(&name) == wanted,
-        None => false,
-    }
-}
-
-// Twice the first net is the second.
-#[test]
-fn one_sum(rt: HostRuntime) -> Result<(), Fail> {
-    let text = b"net a 4\nnet z 4\nadd sum a a z\nmeasure z 9\nmeasure a 15\n";
-    let present = present_of(rt.alloc(), text)?;
-    assert!(rt; finds(&present, b"sum", Some(Named::Part(0))));
-    assert!(rt; finds(&present, b"z", Some(Named::Net(1))));
-    assert!(rt; finds(&present, b"b", None));
-    assert!(rt; present.reading_at(Cell { net: 1, cycle: 0 }) == Some(9));
-    Ok(())
-}
-
-// Puts a line for each number below the count: the front, the number and the rest.
-fn put_lines(text: &mut Vec<u8>, front: &str, count: u16, rest: &str) -> Result<(), Fail> {
-    let alloc = *text.allocator();
-    for number in 0..count {
-        text.extend_from_slice(format!(in alloc; "{front}{number}{rest}\n")?.as_bytes())?;
-    }
-    Ok(())
-}
-
-// As many nets as there may be, each measured.
-fn with_most_nets(alloc: Global) -> Result<Present, Fail> {
-    let mut text = Vec::from_slice(alloc, b"cycles 1\n")?;
-    put_lines(&mut text, "net n", limits::MOST_NETS, " 1")?;
-    put_lines(&mut text, "measure n", limits::MOST_READINGS, " 1")?;
-    present_of(alloc, &text)
-}
-
-// As many cells and components as there may be, with an instance at each of the most cycles.
-fn with_most_cells(alloc: Global, nets: u16) -> Result<Present, Fail> {
-    let first = format!(in alloc; "cycles {}\n", limits::MOST_CYCLES)?;
-    let mut text = Vec::from_slice(alloc, first.as_bytes())?;
-    put_lines(&mut text, "net n", nets, " 1")?;
-    put_lines(&mut text, "not p", limits::MOST_PARTS, " n0 n1")?;
-    present_of(alloc, &text)
-}
-
-#[test]
-fn presents_at_their_limits(rt: HostRuntime) -> Result<(), Fail> {
-    let present = with_most_nets(rt.alloc())?;
-    assert!(rt; present.nets() == limits::MOST_NETS && present.readings() == limits::MOST_READINGS);
-    let cycles = limits::MOST_CYCLES;
-    let nets = limits::MOST_CELLS / u16::from(cycles);
-    let present = with_most_cells(rt.alloc(), nets)?;
-    assert!(rt; present.nets() == nets && present.cycles() == cycles);
-    assert!(rt; present.parts() == limits::MOST_PARTS);
     Ok(())
 }

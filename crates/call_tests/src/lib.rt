@@ -4,13 +4,15 @@
 #[cfg(test)]
 mod agenda;
 #[cfg(test)]
-mod circuits;
+mod chains;
 #[cfg(test)]
-mod closures;
+mod circuits;
 #[cfg(test)]
 mod engine;
 #[cfg(test)]
-mod inferences;
+mod first;
+#[cfg(test)]
+mod hitting;
 #[cfg(test)]
 mod search;
 #[cfg(test)]

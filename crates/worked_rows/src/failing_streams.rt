@@ -1,11 +1,44 @@
 // Sessions whose reads and writes fail, each in turn.
 ghost use Rattle.std.specs.Prelude.{◌<◌};
 
-use crate::running::{NEVER, SESSION, lines_ended, ran, replies_to, session};
+use crate::running::{NEVER, lines_ended, ran};
 use bench_cli::Status;
 use std::alloc::Global;
 use std::process::Abort;
 use std::test::Fail;
+
+// The lines of a session, and their replies. The last line has no newline.
+const SESSION: [(&[u8], &[u8]); 9] = [
+    (b"net A 8", b"ok\n"),
+    (b"net B 8", b"ok\n"),
+    (b"net Z 8", b"ok\n"),
+    (b"# Z is the sum", b""),
+    (b"add S A B Z", b"ok\n"),
+    (b"", b""),
+    (b"measure A 5", b"ok\n"),
+    (b"measure B 7", b"ok\n"),
+    (b"label Z", b"Z=12 {S;A,B}\nok\n"),
+];
+
+// The bytes of the session.
+fn session(alloc: Global) -> Result<Vec<u8>, Fail> {
+    let mut text = Vec::new(alloc);
+    for (i, (line, _)) in SESSION.iter().enumerate() {
+        let newline: &[u8] = if i == 0 { b"" } else { b"\n" };
+        text.extend_from_slice(newline)?;
+        text.extend_from_slice(line)?;
+    }
+    Ok(text)
+}
+
+// The replies to its first lines.
+fn replies_to(alloc: Global, lines: usize) -> Result<Vec<u8>, Fail> {
+    let mut replies = Vec::new(alloc);
+    for (_, reply) in SESSION.iter().take(lines) {
+        replies.extend_from_slice(reply)?;
+    }
+    Ok(replies)
+}
 
 // Whether the run ends with the status where the read fails, with the replies to the first lines.
 fn is_read(
@@ -19,7 +52,7 @@ fn is_read(
     requires { 0 < piece }
 {
     let want = replies_to(alloc, lines)?;
-    let (ended, sink) = ran(alloc, "run", text, piece, read, NEVER)?;
+    let (ended, sink) = ran(alloc, "run", text, piece, (read, NEVER))?;
     Ok(ended == status && sink.held() == want.as_slice())
 }
 
@@ -63,7 +96,7 @@ fn written_before(
 ) -> Result<Option<usize>, Fail>
     requires { 0 < piece }
 {
-    let (status, sink) = ran(alloc, "run", text, piece, NEVER, write)?;
+    let (status, sink) = ran(alloc, "run", text, piece, (NEVER, write))?;
     let held = sink.held();
     match status {
         Status::WriteFault if replies.starts_with(held) => Ok(Some(held.len())),

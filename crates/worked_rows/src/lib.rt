@@ -1,21 +1,22 @@
-// Whole sessions, with the replies that they must have.
+// Sessions over memory: with reads and writes that fail, in orders of one's own, and against the plain answers; and what
+// the checker says of derivations.
 #![tactic(auto)]
 
 #[cfg(test)]
-mod diagnoses;
+mod derivations;
 #[cfg(test)]
 mod failing_streams;
 #[cfg(test)]
-mod kinds;
+mod orders;
 #[cfg(test)]
-mod labels;
+mod plain_probe;
+#[cfg(test)]
+mod plain_rows;
+#[cfg(test)]
+mod plain_sessions;
 #[cfg(test)]
 mod presents;
 #[cfg(test)]
-mod refusals;
-#[cfg(test)]
 mod running;
-#[cfg(test)]
-mod sessions;
 #[cfg(test)]
 mod words;

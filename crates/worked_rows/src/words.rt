@@ -12,11 +12,11 @@ const USAGE: &[u8] = b"usage: gde run | run order N | make N SEED | audit\n";
 fn has_usage(
     alloc: Global,
     word: &str,
-    (read, write): (u64, u64),
+    faults: (u64, u64),
     status: Status,
     written: &[u8],
 ) -> Result<bool, Fail> {
-    let (ended, sink) = ran(alloc, word, b"net A 8\n", 7, read, write)?;
+    let (ended, sink) = ran(alloc, word, b"net A 8\n", 7, faults)?;
     Ok(ended == status && sink.held() == written)
 }
 

@@ -1,5 +1,0 @@
-// Answers as texts, written out by hand.
-#![tactic(auto)]
-
-#[cfg(test)]
-mod texts;

@@ -1,6 +1,0 @@
-//! Engines and slots that stand for presents, for tests.
-#![tactic(auto)]
-
-mod standing;
-
-pub use standing::stand;

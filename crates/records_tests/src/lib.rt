@@ -1,5 +1,0 @@
-// Calls of records and their lists.
-#![tactic(auto)]
-
-#[cfg(test)]
-mod chains;

@@ -1,5 +1,0 @@
-// Sessions under pickers of several kinds.
-#![tactic(auto)]
-
-#[cfg(test)]
-mod orders;
