@@ -25,7 +25,12 @@ fn main(rt: HostRuntime) -> ExitCode {
     let number = match LineWriter::new(rt.alloc(), rt.stdout()) {
         Ok(writer) => {
             let command_line = command_line(&rt);
-            exit_number(rt.alloc(), &command_line, &mut source, &mut StdSink::new(writer))
+            exit_number(
+                rt.alloc(),
+                &command_line,
+                &mut source,
+                &mut StdSink::new(writer),
+            )
         }
         Err(_) => {
             let mut sink = StdSink::new(rt.stdout());
