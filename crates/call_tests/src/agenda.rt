@@ -1,48 +1,38 @@
 // What waits, taken from any place.
 
 use propagation_agenda::{Agenda, Newest, Oldest, Picker, Seeded};
-use std::alloc::AllocError;
 use std::test::Fail;
 
-// Takes what the picker chooses, through its bound.
-fn take_next<P: Picker>(agenda: &mut Agenda<u8>, picker: &mut P) -> Option<u8> {
-    if agenda.is_empty() {
-        return None;
-    }
-    let place = picker.pick(agenda.len());
-    Some(agenda.take_at(place))
-}
-
-// Whether the picker takes these, one after another, and then there is nothing.
+// Whether the picker takes these through its bound, one after another, and then nothing waits.
 fn takes_all<P: Picker>(agenda: &mut Agenda<u8>, picker: &mut P, wanted: &[u8]) -> bool {
     for item in wanted {
-        if take_next(agenda, picker) != Some(*item) {
+        if agenda.is_empty() {
+            return false;
+        }
+        let place = picker.pick(agenda.len());
+        if agenda.take_at(place) != *item {
             return false;
         }
     }
-    take_next(agenda, picker).is_none()
-}
-
-fn put_all(agenda: &mut Agenda<u8>, items: &[u8]) -> Result<(), AllocError> {
-    for item in items {
-        agenda.push(*item)?;
-    }
-    Ok(())
+    agenda.is_empty()
 }
 
 #[test]
 fn items_are_taken_from_any_place(rt: HostRuntime) -> Result<(), Fail> {
     let mut agenda = Agenda::new(rt.alloc());
-    put_all(&mut agenda, &[1, 2, 3, 4])?;
-    assert!(rt; agenda.len() == 4);
+    for item in [1, 2, 3, 4, 5, 6] {
+        agenda.push(item)?;
+    }
+    assert!(rt; agenda.len() == 6);
     assert!(rt; agenda.take_at(1) == 2);
-    assert!(rt; takes_all(&mut agenda, &mut Oldest, &[1, 3, 4]));
-    put_all(&mut agenda, &[1, 2, 3])?;
+    assert!(rt; takes_all(&mut agenda, &mut Oldest, &[1, 3, 4, 5, 6]));
+    for item in [1, 2, 3] {
+        agenda.push(item)?;
+    }
     assert!(rt; takes_all(&mut agenda, &mut Newest, &[3, 2, 1]));
-    put_all(&mut agenda, &[5])?;
+    agenda.push(7)?;
     agenda.clear();
-    assert!(rt; agenda.is_empty());
-    assert!(rt; take_next(&mut agenda, &mut Seeded::new(1_234_567)).is_none());
+    assert!(rt; takes_all(&mut agenda, &mut Seeded::new(1_234_567), &[]));
     Ok(())
 }
 

@@ -1,24 +1,13 @@
 // What an engine remembers, up to its last slot, and what it answers under masks.
-ghost use Rattle.std.specs.Prelude.{IfOk};
 ghost use Rattle.circuit_model.specs.Stock.{IsEnvironment};
 ghost use Rattle.environment_sets.specs.Members.{members};
 ghost use Rattle.assumption_slots.specs.Slots.{stock};
 
-use circuit_model::{Assumption, Cell, Fact, Kind, Part, instances_of, limits};
+use circuit_model::{Assumption, Cell, Fact, limits};
 use environment_sets::{Env, SLOTS};
 use label_engine::{Engine, Stop};
 use propagation_agenda::Oldest;
-use std::alloc::Global;
-use std::process::Abort;
 use std::test::Fail;
-use word_domain::Width;
-
-#[test]
-fn an_engine_opens(rt: HostRuntime) -> Result<(), Fail> {
-    let engine = Engine::open(rt.alloc())?;
-    engine.exactness();
-    Ok(())
-}
 
 fn word(net: u16, value: u64) -> Fact {
     Fact {
@@ -46,6 +35,7 @@ fn remember(engine: &mut Engine, fact: Fact) -> Result<u16, Stop> {
 #[test]
 fn each_slot_is_taken_and_no_other(rt: HostRuntime) -> Result<(), Fail> {
     let mut engine = Engine::open(rt.alloc())?;
+    engine.exactness();
     for slot in 0..SLOTS as u16 {
         assert!(rt; remember(&mut engine, zero_of(slot)) == Ok(slot));
     }
@@ -113,76 +103,5 @@ fn a_mask_is_answered_by_itself(rt: HostRuntime) -> Result<(), Fail> {
     assert!(rt; engine.slot_of(word(0, 2)) == Some(1));
     assert!(rt; engine.slot_of(word(1, 2)).is_none());
     assert!(rt; answers_by_masks(&engine));
-    Ok(())
-}
-
-// The assumption is remembered, and its slot joins the mask.
-fn with_assumed(engine: &mut Engine, mask: Env, what: Assumption) -> Result<Env, Stop>
-    requires { IsEnvironment (stock engine.old.slots) (members mask) }
-    ensures { IfOk result (λ more. IsEnvironment (stock engine.new.slots) (members more)) }
-{
-    match engine.assume(what, &mut Oldest) {
-        Ok(slot) => Ok(mask.with(slot)),
-        Err(stop) => Err(stop),
-    }
-}
-
-// The reading is forgotten, if it is remembered, and its slot leaves the mask.
-fn without_reading(engine: &mut Engine, mask: Env, fact: Fact) -> Env
-    requires { IsEnvironment (stock engine.old.slots) (members mask) }
-    ensures { IsEnvironment (stock engine.new.slots) (members result) }
-{
-    match engine.slot_of(fact) {
-        Some(slot) => {
-            engine.forget(slot);
-            mask.without(slot)
-        }
-        None => mask,
-    }
-}
-
-// A word at the adder's other term is remembered, and the sum alone follows from it; then it is forgotten, and nothing
-// that followed is left.
-fn sum_comes_and_goes(
-    rt: &impl Abort,
-    engine: &mut Engine,
-    mask: Env,
-    term: u64,
-    sum: u64,
-) -> Result<Env, Stop>
-    requires { IsEnvironment (stock engine.old.slots) (members mask) }
-    ensures { IfOk result (λ left. IsEnvironment (stock engine.new.slots) (members left)) }
-{
-    let fact = word(1, term);
-    let cell = Cell { net: 2, cycle: 0 };
-    let all = with_assumed(engine, mask, Assumption::Reading(fact))?;
-    assert!(rt; all.size() == 3 && engine.slot_of(fact) == Some(2));
-    assert!(rt; answers(engine, &all, cell, (Some(sum), None), 3));
-    let left = without_reading(engine, all, fact);
-    assert!(rt; answers(engine, &left, cell, (None, None), 1));
-    Ok(left)
-}
-
-// The adder, and the word of one term; and one word after another at the other term, each at the slot of the word before.
-fn sums_come_and_go(rt: &impl Abort, engine: &mut Engine, adder: Part) -> Result<(), Stop> {
-    let none = no_slot(engine);
-    let part = with_assumed(engine, none, Assumption::Part(adder))?;
-    let term = with_assumed(engine, part, Assumption::Reading(word(0, 5)))?;
-    let left = sum_comes_and_goes(rt, engine, term, 7, 12)?;
-    let left = sum_comes_and_goes(rt, engine, left, 8, 13)?;
-    sum_comes_and_goes(rt, engine, left, 9, 14)?;
-    Ok(())
-}
-
-fn adder(alloc: Global) -> Result<Part, Fail> {
-    let width = Width::new(8).ok_or("a width")?;
-    Ok(instances_of(alloc, Kind::Add, [0, 1, 2], [width; 3], 1)?)
-}
-
-#[test]
-fn what_is_forgotten_leaves_no_trace(rt: HostRuntime) -> Result<(), Fail> {
-    let adder = adder(rt.alloc())?;
-    let mut engine = Engine::open(rt.alloc())?;
-    sums_come_and_go(&rt, &mut engine, adder)?;
     Ok(())
 }

@@ -10,11 +10,7 @@ mod circuits;
 #[cfg(test)]
 mod engine;
 #[cfg(test)]
-mod first;
-#[cfg(test)]
 mod hitting;
-#[cfg(test)]
-mod search;
 #[cfg(test)]
 mod sets;
 #[cfg(test)]

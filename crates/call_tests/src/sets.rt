@@ -12,22 +12,12 @@ const ORDER: [u16; 3] = [1, 2, 3];
 const LAST: u16 = SLOTS as u16 - 1;
 
 #[test]
-fn an_environment_takes_a_bit_a_slot(rt: HostRuntime) {
-    assert!(rt; SLOTS == 1024 && size_of::<Env>() == 128);
-}
-
-#[test]
-fn the_ends_of_words_are_slots(rt: HostRuntime) {
-    for slot in [0, 63, 64, LAST] {
-        let one = Env::empty().with(slot);
-        assert!(rt; one.has(slot) && one.size() == 1 && one.without(slot) == Env::empty());
-    }
-}
-
-#[test]
 fn all_slots_are_a_set(rt: HostRuntime) {
+    assert!(rt; SLOTS == 1024 && size_of::<Env>() == 128);
     let mut all = Env::empty();
     for slot in 0..SLOTS as u16 {
+        let one = Env::empty().with(slot);
+        assert!(rt; one.has(slot) && one.size() == 1 && one.without(slot) == Env::empty());
         all = all.with(slot);
     }
     assert!(rt; usize::from(all.size()) == SLOTS && all.without(LAST).size() == LAST);

@@ -4,7 +4,7 @@ ghost use Rattle.std.specs.Prelude.{◌<◌, ◌+◌, IfOk};
 ghost use Rattle.environment_sets.specs.Lists.{IsIn};
 ghost use Rattle.circuit_model.specs.declared.model.Cell.{Cell};
 
-use crate::presents::present_of;
+use crate::presents::session_of;
 use circuit_model::{Cell, Cells, Chosen, Fact, Places, Present};
 use proof_check::{Derivation, Ending, Goal, Step, Steps, check};
 use std::alloc::{AllocError, Global};
@@ -55,8 +55,14 @@ const REFUTATION: Ending = Ending::Refuted {
     instance: 0,
     ports: 5,
     from: [
-        Some(Fact { cell: Cell { net: 0, cycle: 0 }, value: 3 }),
-        Some(Fact { cell: Cell { net: 5, cycle: 0 }, value: 4 }),
+        Some(Fact {
+            cell: Cell { net: 0, cycle: 0 },
+            value: 3,
+        }),
+        Some(Fact {
+            cell: Cell { net: 5, cycle: 0 },
+            value: 4,
+        }),
     ],
 };
 
@@ -177,7 +183,10 @@ const TO_TWO_WORDS: [Row; 29] = [
     (
         Changed::Nothing,
         TWO_WORDS,
-        Goal::Value(Fact { cell: Cell { net: 6, cycle: 0 }, value: 4 }),
+        Goal::Value(Fact {
+            cell: Cell { net: 6, cycle: 0 },
+            value: 4,
+        }),
         false,
     ),
     (Changed::LeftOut(0), TWO_WORDS, Goal::Clash, false),
@@ -219,27 +228,34 @@ const TO_A_REFUTATION: [Row; 7] = [
     (
         Changed::Nothing,
         Ending::Holds,
-        Goal::Value(Fact { cell: Cell { net: 5, cycle: 0 }, value: 4 }),
+        Goal::Value(Fact {
+            cell: Cell { net: 5, cycle: 0 },
+            value: 4,
+        }),
         true,
     ),
     (
         Changed::Nothing,
         Ending::Holds,
-        Goal::Value(Fact { cell: Cell { net: 5, cycle: 0 }, value: 5 }),
+        Goal::Value(Fact {
+            cell: Cell { net: 5, cycle: 0 },
+            value: 5,
+        }),
         false,
     ),
 ];
 
 // Whether each row is judged so, of these steps.
 fn are_judged(alloc: Global, steps: &[Step], rows: &[Row]) -> Result<bool, Fail> {
-    let present = present_of(alloc, POLYBOX)?;
-    let all = everything(alloc, &present)?;
+    let session = session_of(alloc, POLYBOX)?;
+    let present = session.present();
+    let all = everything(alloc, present)?;
     for (changed, ending, goal, judged) in rows {
         let derivation = Derivation {
             steps: with_change(alloc, steps, *changed)?,
             ending: *ending,
         };
-        if check(&derivation, &present, &all, *goal) != *judged {
+        if check(&derivation, present, &all, *goal) != *judged {
             return Ok(false);
         }
     }

@@ -49,16 +49,10 @@ fn best_with(
     let told = predictions(alloc, present, diagnoses, cell)?;
     let score = score_of(&told);
     let total = total_of(&told);
-    if score < total && is_less(score, best) {
-        return Ok(Some(Best { cell, score, total }));
-    }
-    Ok(best)
-}
-
-fn is_less(score: u128, best: Option<Best>) -> bool {
     match best {
-        Some(best) => score < best.score,
-        None => true,
+        _ if total <= score => Ok(best),
+        Some(least) if least.score <= score => Ok(best),
+        _ => Ok(Some(Best { cell, score, total })),
     }
 }
 

@@ -1,6 +1,6 @@
 // The plain answers of known circuits, worked out by hand.
 
-use crate::presents::present_of;
+use crate::presents::session_of;
 use circuit_model::{Cell, Fact, Present, limits};
 use plain_answers::{Environment, conflicts, diagnoses, label, nogoods};
 use std::alloc::{AllocError, Global};
@@ -112,8 +112,8 @@ fn is_listed(all: &[Environment], wanted: &Environment) -> bool {
 #[test]
 fn rows(rt: HostRuntime) -> Result<(), Fail> {
     for (i, (text, question, wanted)) in ROWS.iter().enumerate() {
-        let present = present_of(rt.alloc(), text)?;
-        let found = answer(rt.alloc(), &present, *question)?;
+        let session = session_of(rt.alloc(), text)?;
+        let found = answer(rt.alloc(), session.present(), *question)?;
         assert!(rt; found.len() == wanted.len(), "row {i}");
         for (parts, nets) in wanted.iter() {
             assert!(rt;

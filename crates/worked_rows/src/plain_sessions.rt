@@ -1,7 +1,7 @@
 // What a session answers to `diagnose`, `first` and `probe`, against the plain answers.
 
 use crate::plain_probe::{Best, best_probe, cost_of};
-use crate::presents::present_of;
+use crate::presents::session_of;
 use crate::running::{NEVER, lines_ended, ran};
 use bench_cli::Status;
 use circuit_model::Present;
@@ -100,17 +100,18 @@ const FRONT: usize = 2;
 
 // The replies to the lines of a circuit, to `diagnose`, to `first 2` and to `probe`.
 fn expected(alloc: Global, lines: &[u8]) -> Result<Vec<u8>, Fail> {
-    let present = present_of(alloc, lines)?;
-    let found = diagnoses(alloc, &present)?;
-    let rows = listed(alloc, &present, &found)?;
+    let session = session_of(alloc, lines)?;
+    let present = session.present();
+    let found = diagnoses(alloc, present)?;
+    let rows = listed(alloc, present, &found)?;
     let mut replies = Vec::new(alloc);
     for _line in 0..lines_ended(lines) {
         replies.extend_from_slice(b"ok\n")?;
     }
-    write_rows(&mut replies, &present, &rows)?;
-    write_rows(&mut replies, &present, &rows[..rows.len().min(FRONT)])?;
-    match best_probe(alloc, &present, &found)? {
-        Some(best) => write_best(alloc, &mut replies, &present, best)?,
+    write_rows(&mut replies, present, &rows)?;
+    write_rows(&mut replies, present, &rows[..rows.len().min(FRONT)])?;
+    match best_probe(alloc, present, &found)? {
+        Some(best) => write_best(alloc, &mut replies, present, best)?,
         None => replies.extend_from_slice(b"probe none\nok\n")?,
     }
     Ok(replies)

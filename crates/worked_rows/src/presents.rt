@@ -1,59 +1,24 @@
-// Presents, by the lines of a session.
-ghost use Rattle.std.specs.Prelude.{◌↔◌, IsTrue};
-ghost use Rattle.netlist_text.specs.Grammar.{IsPadded};
-ghost use Rattle.netlist_text.specs.Placing.{IsOfPresent};
+// Circuits with measurements, by the lines of a session.
 
-use circuit_model::Present;
-use netlist_text::{Change, Request, place, read_line};
+use netlist_text::{Request, read_line};
+use propagation_agenda::Oldest;
+use session_undo::Session;
 use std::alloc::Global;
 use std::test::Fail;
 
-// The present after these lines, each of which asks nothing, or a change that is accepted.
-pub(crate) fn present_of(alloc: Global, text: &[u8]) -> Result<Present, Fail> {
-    let mut present = Present::open(alloc)?;
+// The session after these lines, each of which is a change that is made, but for the end.
+pub(crate) fn session_of(alloc: Global, text: &[u8]) -> Result<Session, Fail> {
+    let mut session = Session::open(alloc)?;
     for line in text.split(|byte| *byte == b'\n') {
-        take(alloc, &mut present, line)?;
+        let Ok(request) = read_line(line) else {
+            return Err("a line that cannot be read".into());
+        };
+        let Request::Change(change) = request else {
+            continue;
+        };
+        let Ok(()) = session.change(&change, &mut Oldest) else {
+            return Err("a change that is refused".into());
+        };
     }
-    Ok(present)
-}
-
-fn take(alloc: Global, present: &mut Present, line: &[u8]) -> Result<(), Fail> {
-    match read_line(line) {
-        Ok(Request::Nothing) => Ok(()),
-        Ok(Request::Change(change)) => make(alloc, present, &change),
-        Ok(Request::Query(_)) => Err("a question".into()),
-        Err(_) => Err("a line that cannot be read".into()),
-    }
-}
-
-fn make(alloc: Global, present: &mut Present, change: &Change) -> Result<(), Fail>
-    requires { IsPadded change.now }
-{
-    if !is_of_present(change) {
-        return Err("a change of the history".into());
-    }
-    match place(alloc, change, present) {
-        Ok(()) => Ok(()),
-        Err(_) => Err("a change that is refused".into()),
-    }
-}
-
-fn is_of_present(change: &Change) -> bool
-    ensures { IsTrue result ↔ IsOfPresent change.now }
-{
-    match change {
-        Change::Undo => false,
-        Change::Cycles { .. }
-        | Change::Net { .. }
-        | Change::Add { .. }
-        | Change::Cost { .. }
-        | Change::Stuck { .. }
-        | Change::Acts { .. }
-        | Change::Define { .. }
-        | Change::Pin { .. }
-        | Change::Inside { .. }
-        | Change::UseBlock { .. }
-        | Change::Measure { .. }
-        | Change::Retract { .. } => true,
-    }
+    Ok(session)
 }

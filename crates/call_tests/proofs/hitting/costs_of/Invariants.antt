@@ -2,4 +2,4 @@ use Rattle.std.proofs.Common.{◌≡◌, vec_len}
 use Rattle.call_tests.proofs.hitting.costs_of.Given as goal
 
 abbrev pub invariant-loop-slot : goal.invariant-loop-slot
-invariant-loop-slot l = vec_len l.costs ≡ l.slot-index
+invariant-loop-slot l = vec_len l.listed ≡ l.slot-index

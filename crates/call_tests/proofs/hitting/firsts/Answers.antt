@@ -4,7 +4,7 @@ use Rattle.environment_sets.specs.Members.{HasMember}
 use Rattle.environment_sets.specs.Orders.{IsOrder}
 use Rattle.environment_sets.specs.Costs.{ListsEach}
 use Rattle.call_tests.proofs.Rising.{is_order, lists_each}
-use Rattle.call_tests.proofs.first.firsts.Goals as goal
+use Rattle.call_tests.proofs.hitting.firsts.Goals as goal
 
 pub first-requires-clause-slots : goal.first-requires-clause-slots
 first-requires-clause-slots c = subst (IsOrder SLOTS) (sym c.deref-3.ensures.value) (is_order c.in_ok-order.order.items c.in_ok-order.ensures)
