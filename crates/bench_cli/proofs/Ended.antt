@@ -15,6 +15,7 @@ use Rattle.bench_cli.specs.Summary.{Tells, EndsWith, texts_of, want_memory, stat
 use Rattle.bench_cli.specs.declared.Status.{Status}
 use Rattle.bench_cli.specs.declared.Status.TheVariants.{WriteFault}
 use Rattle.bench_cli.specs.declared.making.Findings.{Findings}
+use Rattle.bench_cli.proofs.Sessions.{no_write_fault}
 
 -- a write failed
 pub ends_failed : (failed : Bool) (replies : List Reply) (before now : Telling) → failed ≡ true → Puts false failed before now (texts_of replies) → EndsWith WriteFault replies before now
@@ -27,11 +28,6 @@ tells_whole true refused replies before now is h = record { by_replies = is; wri
 tells_whole false true replies before now is h = record { by_replies = is; written = h }
 tells_whole false false replies before now is h = record { by_replies = is; written = h }
 
-no_fault : {A : Type 0} (no_memory refused : Bool) → status_by no_memory refused ≡ WriteFault → A
-no_fault true refused e = cc
-no_fault false true e = cc
-no_fault false false e = cc
-
 -- all was written
 pub ends_whole : (failed no_memory refused : Bool) (status : Status) (replies : List Reply) (before now : Telling) → failed ≡ false → Puts false failed before now (texts_of replies)
     → status ≡ status_by no_memory refused → status_by no_memory refused ≡ status_of replies → EndsWith status replies before now
@@ -41,7 +37,7 @@ ends_whole false no_memory refused status replies before now is p e f =
     let P : Status → Type 0 = λ s. EndsWith s replies before now in
     subst P (sym e) (record {
       told = tells_whole no_memory refused replies before.bytes now.bytes f q.0;
-      write_fault = λ w. no_fault no_memory refused w;
+      write_fault = λ w. no_write_fault no_memory refused w;
       write_counted = λ more. absurd (omega (arith, q.1, more));
       later = omega (arith, q.1);
     })

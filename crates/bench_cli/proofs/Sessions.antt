@@ -264,7 +264,7 @@ no_read_fault true refused e = cc
 no_read_fault false true e = cc
 no_read_fault false false e = cc
 
-no_write_fault : {A : Type 0} (no_memory refused : Bool) → status_by no_memory refused ≡ WriteFault → A
+pub no_write_fault : {A : Type 0} (no_memory refused : Bool) → status_by no_memory refused ≡ WriteFault → A
 no_write_fault true refused e = cc
 no_write_fault false true e = cc
 no_write_fault false false e = cc

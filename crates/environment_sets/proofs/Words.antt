@@ -1,12 +1,12 @@
 -- Sets of the bits of a word, and of words side by side.
-use Rattle.std.proofs.Common.{◌≡◌, ◌≢◌, ℕ, zero, suc, ◌+◌, ◌-◌, ◌*◌, ◌/◌, ◌%◌, ◌^◌, ◌<◌, ◌≤◌, inl, inr, min, max, Bool, true, false, not, ◌&&◌, ◌||◌, ◌==◌, IsTrue, cond, refl, sym, ap, ap₂, subst, ◌∙◌, List, length, get_or, set, replicate, bit_and, bit_or, arith, get_or-set_same, get_or-set_other, length-set, below_more}
+use Rattle.std.proofs.Common.{◌≡◌, ◌≢◌, ℕ, zero, suc, ◌+◌, ◌*◌, ◌/◌, ◌%◌, ◌^◌, ◌<◌, ◌≤◌, inl, inr, min, max, Bool, true, false, not, ◌&&◌, ◌||◌, ◌==◌, IsTrue, cond, refl, sym, ap, ap₂, subst, ◌∙◌, List, length, get_or, set, replicate, bit_and, bit_or, arith, get_or-set_same, get_or-set_other, length-set, below_more}
 use Rattle.std.specs.Int.{bit_at, bit_not, w64}
 use Rattle.std.specs.Int.RustNames.{count_ones}
 use Rattle.std.proofs.Math.Nat.{add-suc}
 use Rattle.std.proofs.lemmas.Bool.{cases_lt, cases_eq, and_parts, and_from, false≢true, or_right, and_right, eq-eqb, ne_eqb}
 use Rattle.std.proofs.lemmas.Bool.Decides.{nat_tests}
 use Rattle.std.proofs.lemmas.Nat.{ones_cat, ones_le_self, zero_from_ones, div-mul-add, mod-mul-add, div-add-mod', shr_below, mod_below, pow_pos, and_le_l, or_lt}
-use Rattle.std.proofs.lemmas.Nat.Bits.{bit_at-zero, bit_at_and, bit_at_or, bit_at-lt, bit_at_not, bit_at_cat_low, bit_at_set_same, bit_at_set_other, bit_at_clear_same, bit_at_clear_other, same_from_bits_below}
+use Rattle.std.proofs.lemmas.Nat.Bits.{bit_at-zero, bit_at_and, bit_at_or, bit_at-lt, bit_at_cat_low, bit_at_set_same, bit_at_set_other, bit_at_clear_same, bit_at_clear_other, same_from_bits_below}
 use Rattle.std.proofs.lemmas.List.{get_or-replicate, get_or_past, get_or_default, same_lists, length-replicate}
 use mathlib.Core.Path.{fun_ext}
 use Rattle.environment_sets.specs.declared.environment.TheConstants.{WORD_BITS}
@@ -31,12 +31,6 @@ has_bit-or a b k = ap (λ d. d == 1) (bit_at_or a b k) ∙ either (bit_at a k) (
   where
     either : (m n : ℕ) → m < 2 → n < 2 → (max m n == 1) ≡ ((m == 1) || (n == 1))
     either m n p q = grind (arith, nat_tests)
-
-has_bit-not : (b k : ℕ) → b < 2 ^ WORD_BITS → k < WORD_BITS → has_bit (bit_not w64 b) k ≡ not (has_bit b k)
-has_bit-not b k fits low = ap (λ d. d == 1) (bit_at_not w64 b k fits low) ∙ turned (bit_at b k) (bit_at-lt b k)
-  where
-    turned : (n : ℕ) → n < 2 → (1 - n == 1) ≡ not (n == 1)
-    turned n p = grind (arith, nat_tests)
 
 -- words with the same bits are equal
 pub same_word : (n a b : ℕ) → a < 2 ^ n → b < 2 ^ n → ((k : ℕ) → k < n → has_bit a k ≡ has_bit b k) → a ≡ b
@@ -194,21 +188,6 @@ fits-union xs ys zs each fit fits i = let P : ℕ → Type 0 = λ w. w < 2 ^ WOR
 
 pub slots_in-meet : (xs ys zs : List ℕ) → ((k : ℕ) → get_or zs k 0 ≡ bit_and (get_or xs k 0) (get_or ys k 0)) → slots_in zs ≡ (λ k. slots_in xs k && slots_in ys k)
 slots_in-meet xs ys zs each = slots_in-joined bit_and xs ys (λ a b. a && b) has_bit-and zs each
-
--- the word of the one without the bits of the other
-abbrev pub bits_outside : ℕ → ℕ → ℕ
-bits_outside a b = bit_and a (bit_not w64 b)
-
-pub slots_in-outside : (xs ys zs : List ℕ) → ((k : ℕ) → get_or zs k 0 ≡ bits_outside (get_or xs k 0) (get_or ys k 0)) → ((i : ℕ) → get_or ys i 0 < 2 ^ WORD_BITS) → slots_in zs ≡ slots_in xs ∖ slots_in ys
-slots_in-outside xs ys zs each fits =
-    fun_ext (λ k.
-    let a : ℕ = get_or xs (k / WORD_BITS) 0 in
-    let b : ℕ = get_or ys (k / WORD_BITS) 0 in
-    ap (λ w. has_bit w (k % WORD_BITS)) (each (k / WORD_BITS))
-    ∙ (has_bit-and a (bit_not w64 b) (k % WORD_BITS) ∙ ap (λ c. has_bit a (k % WORD_BITS) && c) (has_bit-not b (k % WORD_BITS) (fits (k / WORD_BITS)) (omega arith))))
-
-pub fits-outside : (xs ys zs : List ℕ) → ((k : ℕ) → get_or zs k 0 ≡ bits_outside (get_or xs k 0) (get_or ys k 0)) → ((i : ℕ) → get_or xs i 0 < 2 ^ WORD_BITS) → (i : ℕ) → get_or zs i 0 < 2 ^ WORD_BITS
-fits-outside xs ys zs each fits i = omega (arith, each i, and_le_l (get_or xs i 0) (bit_not w64 (get_or ys i 0)), fits i)
 
 -- ---- slots of both, word by word
 

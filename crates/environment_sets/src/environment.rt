@@ -69,17 +69,6 @@ impl Env {
         Env { words }
     }
 
-    /// The slots of this environment that the other lacks.
-    pub fn outside(self, other: Env) -> Env
-        ensures { members result ≡ members self ∖ members other }
-    {
-        let mut words = self.words;
-        for i in 0..WORDS {
-            words[i] = self.words[i] & !other.words[i];
-        }
-        Env { words }
-    }
-
     /// The slots of both environments.
     pub fn meet(self, other: Env) -> Env
         ensures { members result ≡ members self ∩ members other }

@@ -1,5 +1,6 @@
 -- What the edits of a lane change.
 use Rattle.std.proofs.Common.{◌≡◌, ◌≢◌, ℕ, zero, suc, ◌-◌, ◌<◌, ◌≤◌, ◌⊎◌, Bool, true, false, cond, ◌++◌, take, replicate, inl, inr, refl, sym, ap, subst, ◌∙◌, List, [], ◌∷◌, length, set, get_or, Option, Some, None, IsSome, IfSome, arith, length-set, get_or-set_same, get_or-set_other}
+use Rattle.std.proofs.lemmas.Bool.{cases_lt}
 use Rattle.std.proofs.lemmas.List.{get_or_past, length-map, take_all}
 use Rattle.environment_sets.specs.Lists.{IsIn}
 use Rattle.index_lists.specs.declared.lane.Place.{Place}
@@ -24,13 +25,10 @@ length-changed change (Some j) places = length-set places j (change (place_at pl
 
 first_low : (firsts : List (Option ℕ)) (h k : ℕ) → first_at firsts h ≡ Some k → h < length firsts
 first_low firsts h k at =
-    elim (below_or_not h (length firsts)) [
+    elim (cases_lt h (length firsts)) [
       | inl low ↦ low
       | inr past ↦ absurd (none_is_no_some k (sym (get_or_past firsts h None past) ∙ at))
     ]
-  where
-    below_or_not : (a b : ℕ) → (a < b) ⊎ (b ≤ a)
-    below_or_not a b = grind arith
 
 module _ (firsts : List (Option ℕ)) (places : List (Option Place)) (linked : AreLinked firsts places) where
   abbrev Seen : Lists

@@ -1,5 +1,6 @@
 -- Linked lists, and what changes in them.
 use Rattle.std.proofs.Common.{◌≡◌, ◌≢◌, ℕ, zero, suc, ◌+◌, ◌<◌, ◌≤◌, ◌⊎◌, inl, inr, true, false, ◌==◌, not, cond, IsTrue, true≢false, refl, sym, ap, subst, ◌∙◌, List, [], ◌∷◌, length, Option, Some, None, arith}
+use Rattle.std.proofs.lemmas.Bool.{cases_lt}
 use Rattle.std.proofs.lemmas.Bool.Decides.{nat_tests}
 use Rattle.std.proofs.lemmas.List.{get_or_past}
 use Rattle.environment_sets.specs.Lists.{IsIn, AreDistinct}
@@ -69,13 +70,10 @@ few (suc n) keys d below =
 module _ (places : List (Option Place)) where
   pub place_within : (k : ℕ) (p : Place) → place_at places k ≡ Some p → k < length places
   place_within k p at =
-      elim (below_or_not k (length places)) [
+      elim (cases_lt k (length places)) [
         | inl low ↦ low
         | inr past ↦ absurd (none_is_no_some p (sym (get_or_past places k None past) ∙ at))
       ]
-    where
-      below_or_not : (a b : ℕ) → (a < b) ⊎ (b ≤ a)
-      below_or_not a b = grind arith
 
   -- a key of a chain stands in it
   pub stands_in : (h : ℕ) (c : Option ℕ) (keys : List ℕ) → IsChain places h c keys → (k : ℕ) → IsIn keys k → (b : Option ℕ) × (a : Option ℕ) × (place_at places k ≡ Some (between h b a))

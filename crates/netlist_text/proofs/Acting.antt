@@ -1,5 +1,6 @@
 -- The kinds that a component may act as, by their words.
 use Rattle.std.proofs.Common.{◌≡◌, ℕ, Bool, true, false, not, ◌&&◌, ◌⊎◌, inl, inr, if◌then◌else◌, IsTrue, List, codes, Option, Some, None, refl, sym, ap, subst, ◌∙◌}
+use Rattle.std.proofs.lemmas.Bool.{both_ways, false_from_ne_true}
 use Rattle.std.specs.Option.{option_and_then}
 use Rattle.std.specs.Str.{bytes_eq}
 use Rattle.std.proofs.lemmas.Slice.Eq.{bytes_eq-Decides}
@@ -102,25 +103,18 @@ no true true h = refl
 no true false h = absurd (h refl refl)
 no false apart h = refl
 
-untrue : (b : Bool) → (b ≡ true → ⊥) → b ≡ false
-untrue true h = absurd (h refl)
-untrue false h = refl
-
-false_is_not_true : (b : Bool) → b ≡ false → b ≡ true → ⊥
-false_is_not_true b p q = cc
-
 module _ (own k : Kind) (name : List ℕ) (e : acting_kind_named name ≡ Some k) where
   pub may : MayAct own k → may_act_as own name ≡ true
   may h =
       rw e (yes (are_one_class (class_of own) (class_of k)) (bytes_eq name (word_of_kind own)) h.0
-      (untrue (bytes_eq name (word_of_kind own)) (λ is.
+      (false_from_ne_true (bytes_eq name (word_of_kind own)) (λ is.
       let named : name ≡ word_of_kind own = (bytes_eq-Decides name (word_of_kind own)).0 is in
       h.1 (same own k (sym (named_again own (class_of k) h.0) ∙ (ap acting_kind_named (sym named) ∙ e))))))
 
   pub may_not : (MayAct own k → ⊥) → may_act_as own name ≡ false
   may_not h =
       rw e (no (are_one_class (class_of own) (class_of k)) (bytes_eq name (word_of_kind own)) (λ one apart.
-      h (one, λ is. false_is_not_true (bytes_eq name (word_of_kind own)) apart ((bytes_eq-Decides name (word_of_kind own)).1 (word_again name k e ∙ ap word_of_kind (sym is))))))
+      h (one, λ is. both_ways (bytes_eq name (word_of_kind own)) apart ((bytes_eq-Decides name (word_of_kind own)).1 (word_again name k e ∙ ap word_of_kind (sym is))))))
 
 pub no_kind : (own : Kind) (name : List ℕ) → acting_kind_named name ≡ None → may_act_as own name ≡ false
 no_kind own name e = rw e refl

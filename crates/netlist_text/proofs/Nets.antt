@@ -1,5 +1,6 @@
 -- Nets by names, in a row, and their widths beside those of pins.
 use Rattle.std.proofs.Common.{◌≡◌, ℕ, zero, suc, ◌+◌, ◌<◌, ◌≤◌, Bool, true, false, is_some, List, [], ◌∷◌, ◌++◌, length, map, take, get_or, Some, None, refl, sym, ap, ap₂, subst, ◌∙◌, arith}
+use Rattle.std.proofs.lemmas.Bool.{false_from_ne_true}
 use Rattle.std.specs.List.{list_all, slice_get}
 use Rattle.std.specs.Str.{bytes_eq}
 use Rattle.std.proofs.lemmas.List.{take_more, take_all, map-append}
@@ -44,11 +45,7 @@ pub all_alike : (xs ys : List ℕ) (i : ℕ) → length xs ≡ length ys → len
 all_alike xs ys i long done each = sym ((bytes_eq-Decides xs ys).1 (same_lists xs ys long (λ k low. each k (omega arith))))
 
 pub one_differs : (xs ys : List ℕ) (k : ℕ) → (get_or xs k 0 ≡ get_or ys k 0 → ⊥) → false ≡ bytes_eq xs ys
-one_differs xs ys k apart = sym (by_cases (bytes_eq xs ys) (λ is. apart (ap (λ (zs : List ℕ). get_or zs k 0) ((bytes_eq-Decides xs ys).0 is))))
-  where
-    by_cases : (b : Bool) → (b ≡ true → ⊥) → b ≡ false
-    by_cases true h = absurd (h refl)
-    by_cases false h = refl
+one_differs xs ys k apart = sym (false_from_ne_true (bytes_eq xs ys) (λ is. apart (ap (λ (zs : List ℕ). get_or zs k 0) ((bytes_eq-Decides xs ys).0 is))))
 
 -- what stands at a place of a list, after f
 pub read_after : (f : ℕ → ℕ) (xs : List ℕ) (k n : ℕ) → slice_get xs k ≡ Some n → get_or (map f xs) k 0 ≡ f n

@@ -1,7 +1,7 @@
 -- Measurements that are put in, taken out and put back, and what a present measures.
 use Rattle.std.proofs.Common.{◌≡◌, ℕ, ◌+◌, ◌==◌, inl, inr, Bool, true, false, cond, List, [], ◌∷◌, length, slice_get, Option, Some, None, refl, sym, ap, ap₂, subst, ◌∙◌, arith}
 use Rattle.std.specs.Option.{option_map_or}
-use Rattle.std.proofs.lemmas.Bool.{cond_both, cond-true, cond-false, eqb-true, eq-eqb}
+use Rattle.std.proofs.lemmas.Bool.{cond_both, cond-true, cond-false, eqb-true, eq-eqb, false_from_ne_true}
 use Rattle.environment_sets.specs.Lists.{IsIn, IsRising}
 use Rattle.environment_sets.proofs.Membership.{IsIn-slice_get, slice_get-IsIn}
 use Rattle.circuit_model.specs.declared.model.Cell.{Cell}
@@ -47,10 +47,6 @@ put_first g (h ∷ rs) rising = cond-true (is_cell_before g.cell h.cell) (g ∷ 
 never_both : (c d : Cell) → is_cell_before c d ≡ true → is_cell_before d c ≡ true → ⊥
 never_both c d one other = not_before_itself c (before_trans c d c one other)
 
-is_false : (b : Bool) → (b ≡ true → ⊥) → b ≡ false
-is_false true h = absurd (h refl)
-is_false false h = refl
-
 is_none : (o : Option ℕ) → ((v : ℕ) → o ≡ Some v → ⊥) → o ≡ None
 is_none None h = refl
 is_none (Some v) h = absurd (h v refl)
@@ -87,7 +83,7 @@ module _ (c : Cell) where
       (λ other.
       let later : reading_in rs c ≡ Some v = sym (cond-false (is_cell g.cell c) (Some g.value) (reading_in rs c) other) ∙ e in
       let before : ComesBefore g (fact c v) = rising.0 (fact c v) (IsIn-reading_in rs c v later) in
-      let after : is_cell_before c g.cell ≡ false = is_false (is_cell_before c g.cell) (λ first. never_both c g.cell first before) in
+      let after : is_cell_before c g.cell ≡ false = false_from_ne_true (is_cell_before c g.cell) (λ first. never_both c g.cell first before) in
       cond-false (is_cell_before c g.cell) (fact c v ∷ g ∷ without_reading c rs) (g ∷ with_reading (fact c v) (without_reading c rs)) after ∙ ap (λ (fs : List Fact). g ∷ fs) (put_back rs v rising.1 later))
 
   -- what is left was there

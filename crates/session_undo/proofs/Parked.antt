@@ -24,9 +24,6 @@ not_true : (b : Bool) → (b ≡ true → ⊥) → IsTrue (not b)
 not_true true h = absurd (h refl)
 not_true false h = refl
 
-pub never_both : (b : Bool) → b ≡ false → b ≡ true → ⊥
-never_both b e f = cc
-
 -- it was retracted, and does not stand now
 pub record IsAside (s : PresentView) (us : List Undoing) (f : Fact) : Type 0 where
   pub out : IsIn (retracted us) f

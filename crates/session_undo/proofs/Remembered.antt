@@ -1,5 +1,6 @@
 -- What a session remembers, told by its presents.
 use Rattle.std.proofs.Common.{◌≡◌, ◌⊎◌, inl, inr, true, false, List, refl}
+use Rattle.std.proofs.lemmas.Bool.{both_ways}
 use Rattle.circuit_model.specs.declared.model.Fact.{Fact}
 use Rattle.circuit_model.specs.Present.{PresentView, IsLawful}
 use Rattle.present_history.specs.declared.undoing.Undoing.{Undoing}
@@ -10,7 +11,7 @@ use Rattle.standing_changes.specs.Remembered.{IsRemembered}
 use Rattle.standing_changes.specs.declared.remembered.Remembered.{Remembered}
 use Rattle.standing_changes.proofs.Parked.{remembered_readings}
 use Rattle.session_undo.specs.Remembering.{parked, IsKept, Remembers}
-use Rattle.session_undo.proofs.Parked.{aside, is_parked, never_both}
+use Rattle.session_undo.proofs.Parked.{aside, is_parked}
 
 module _ (s : PresentView) (us : List Undoing) (r : Remembered) (lawful : IsLawful s) (kept : IsKept s us r) where
   -- it stands in the present or in an earlier one
@@ -29,7 +30,7 @@ module _ (s : PresentView) (us : List Undoing) (r : Remembered) (lawful : IsLawf
     | inl now ↦ (remembered_readings r s (parked s us) kept.stands f).1 (inl (IsIn-measured s f now))
     | inr out ↦ elim (measures s f) as (λ b. measures s f ≡ b → IsRemembered r f) [
       | true ↦ λ now. (remembered_readings r s (parked s us) kept.stands f).1 (inl (IsIn-measured s f now))
-      | false ↦ λ gone. (remembered_readings r s (parked s us) kept.stands f).1 (inr (is_parked s us f (record { out = out; gone = never_both (measures s f) gone })))
+      | false ↦ λ gone. (remembered_readings r s (parked s us) kept.stands f).1 (inr (is_parked s us f (record { out = out; gone = both_ways (measures s f) gone })))
     ] refl
   ]
 

@@ -1,5 +1,6 @@
 -- What follows from the first environment of a label, and from the conflict of a number.
 use Rattle.std.proofs.Common.{◌≡◌, ◌⊎◌, ℕ, zero, suc, ◌-◌, ◌≤◌, ◌<◌, inl, inr, List, length, map, get_or, Some, None, refl, sym, ap, ◌∙◌, arith}
+use Rattle.std.proofs.lemmas.Bool.{cases_lt}
 use Rattle.std.specs.List.{slice_get}
 use Rattle.std.specs.Option.{option_map}
 use Rattle.std.proofs.lemmas.List.{length-map}
@@ -38,13 +39,10 @@ module _ (s : PresentView) (f : Fact) where
 -- a number that counts none of so many is 0 or greater
 counts_none : (n count : ℕ) → ((1 ≤ n) × (n - 1 < count) → ⊥) → (n ≡ 0) ⊎ (count < n)
 counts_none zero count out = inl refl
-counts_none (suc m) count out = elim (low_or_more m count) [
+counts_none (suc m) count out = elim (cases_lt m count) [
   | inl low ↦ absurd (out (omega arith, omega (arith, low)))
   | inr more ↦ inr (omega (arith, more))
 ]
-  where
-    low_or_more : (m n : ℕ) → (m < n) ⊎ (n ≤ m)
-    low_or_more m n = grind arith
 
 module _ (s : PresentView) (Cs : List (Set ℕ)) (are : AreConflicts (circuit_of s) Cs) where
   -- there are so many conflicts

@@ -1,7 +1,7 @@
 -- Readings that are parked, stand again, and are forgotten.
 use Rattle.std.proofs.Common.{◌≡◌, ◌≢◌, ℕ, zero, suc, ◌<◌, ◌==◌, ◌⊎◌, inl, inr, Bool, true, false, not, IsTrue, List, [], ◌∷◌, map, Option, Some, None, IsSome, refl, sym, ap, subst, ◌∙◌}
 use Rattle.std.specs.List.{remove, slice_get}
-use Rattle.std.proofs.lemmas.Bool.{not-true}
+use Rattle.std.proofs.lemmas.Bool.{not-true, both_ways}
 use Rattle.circuit_model.specs.declared.model.Cell.{Cell}
 use Rattle.circuit_model.specs.declared.model.Fact.{Fact}
 use Rattle.circuit_model.specs.declared.model.Assumption.{Assumption}
@@ -32,10 +32,7 @@ pub is_other : (f g : Fact) (readings : List Fact) → IsIn (without_fact f read
 is_other f g readings h =
     let r : IsIn readings g × IsTrue (not (is_fact f g)) = IsIn-filter (λ g. not (is_fact f g)) readings g h in
     let no : is_fact f g ≡ false = not-true (is_fact f g) r.1 in
-    record { listed = r.0; other = λ e. never (is_fact f g) no (subst (λ (h : Fact). is_fact f h ≡ true) e (fact_itself f)) }
-  where
-    never : (b : Bool) → b ≡ false → b ≡ true → ⊥
-    never b e f = cc
+    record { listed = r.0; other = λ e. both_ways (is_fact f g) no (subst (λ (h : Fact). is_fact f h ≡ true) e (fact_itself f)) }
 
 pub none_is_not_some : (o : Option Assumption) → o ≡ None → IsSome o → ⊥
 none_is_not_some None e h = cc

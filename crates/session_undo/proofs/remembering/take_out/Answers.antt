@@ -1,4 +1,5 @@
 use Rattle.std.proofs.Common.{◌≡◌, ◌∷◌, Some, inl, inr, refl, sym, ◌∙◌}
+use Rattle.std.proofs.lemmas.Bool.{both_ways}
 use Rattle.assumption_slots.specs.Slots.{stock}
 use Rattle.circuit_model.specs.Closure.{fact}
 use Rattle.circuit_model.specs.declared.model.Fact.{Fact}
@@ -7,7 +8,6 @@ use Rattle.standing_changes.specs.Remembered.{StandsWith}
 use Rattle.standing_changes.proofs.Parked.{cell_stands, remembered_readings}
 use Rattle.session_undo.specs.Remembering.{parked}
 use Rattle.session_undo.proofs.Changing.{parked_still, parked_no_more}
-use Rattle.session_undo.proofs.Parked.{never_both}
 use Rattle.session_undo.proofs.remembering.take_out.Goals as goal
 
 pub park-requires : goal.park-requires
@@ -26,7 +26,7 @@ returns-then-not-has_retracted c =
     let at : reading_in s.readings c.args.cell ≡ Some c.in-Some.value = sym c.reading_at.ensures ∙ c.in-Some.is in
     let f : Fact = fact c.args.cell c.in-Some.value in
     let stands : StandsWith c.park.new.self (without_standing c.args.cell s) (f ∷ parked s c.args.history.now) = c.park.ensures s c.in-Some.value at (parked s c.args.history.now) c.requires.stands in
-    parked_no_more c.forget_reading.new.self s c.args.history.now c.readings-readings.ensures.lawful c.args.cell c.in-Some.value at (λ out. never_both c.has_retracted.result c.if-not-has_retracted.true (c.has_retracted.ensures.1 out))
+    parked_no_more c.forget_reading.new.self s c.args.history.now c.readings-readings.ensures.lawful c.args.cell c.in-Some.value at (λ out. both_ways c.has_retracted.result c.if-not-has_retracted.true (c.has_retracted.ensures.1 out))
     (c.forget_reading.ensures (without_standing c.args.cell s) (f ∷ parked s c.args.history.now) stands (inl refl))
 
 pub returns-else-not-has_retracted : goal.returns-else-not-has_retracted
