@@ -1,5 +1,5 @@
 -- What the edits of a lane change.
-use Rattle.std.proofs.Common.{◌≡◌, ◌≢◌, ℕ, zero, suc, ◌-◌, ◌<◌, ◌≤◌, ◌⊎◌, Bool, true, false, cond, ◌++◌, take, replicate, inl, inr, refl, sym, ap, subst, ◌∙◌, List, [], ◌∷◌, length, set, get_or, Option, Some, None, IsSome, IfSome, arith, length-set, get_or-set_same, get_or-set_other}
+use Rattle.std.proofs.Common.{◌≡◌, ◌≢◌, ℕ, zero, suc, ◌-◌, ◌<◌, ◌≤◌, Bool, true, false, cond, ◌++◌, take, replicate, inl, inr, refl, sym, ap, subst, ◌∙◌, List, [], ◌∷◌, length, set, get_or, Option, Some, None, IsSome, IfSome, arith, length-set, get_or-set_same, get_or-set_other}
 use Rattle.std.proofs.lemmas.Bool.{cases_lt}
 use Rattle.std.proofs.lemmas.List.{get_or_past, length-map, take_all}
 use Rattle.environment_sets.specs.Lists.{IsIn}
