@@ -2,7 +2,8 @@
 use Rattle.std.proofs.Common.{◌≡◌, ℕ, ◌<◌, ◌≤◌, inl, inr, Bool, not, IsTrue, ◌↔◌, refl, sym, ap, subst, ◌∙◌, List, [], ◌∷◌, ◌++◌, length, get_or, Option, Some, None, MatchOption, is_some, arith}
 use Rattle.std.proofs.lemmas.Bool.{false≢true, both_ways, not-true, not_from_false, false_from_ne_true}
 use Rattle.std.proofs.lemmas.List.{length-map}
-use Rattle.std.specs.List.{filter}
+use Rattle.std.proofs.lemmas.Option.{slice_get-get_or}
+use Rattle.std.specs.List.{filter, slice_get}
 use Rattle.environment_sets.specs.declared.environment.Env.{Env}
 use Rattle.environment_sets.specs.declared.environment.TheConstants.{SLOTS}
 use Rattle.environment_sets.specs.Sets.{Set, ◌⊆◌, IsBelow, size_below, is_within}
@@ -10,10 +11,11 @@ use Rattle.environment_sets.specs.Families.{IsCovered, Adds, Drops, AreInside}
 use Rattle.environment_sets.specs.Members.{members, sets, HasMember}
 use Rattle.environment_sets.specs.Lists.{IsIn, AreDistinct, IsRoster}
 use Rattle.environment_sets.proofs.Families.{Adds-antichain, Drops-antichain}
-use Rattle.environment_sets.proofs.Listings.{sets-push, IsIn-push, IsIn-front, IsIn-last, IsIn-filter, IsIn-get_or, IsIn-kept, IsRising-filter, map-filter}
-use Rattle.environment_sets.proofs.Membership.{AreDistinct-push, IsIn-map, map-IsIn}
+use Rattle.environment_sets.proofs.Listings.{sets-push, IsIn-push, IsIn-front, IsIn-last, IsIn-filter, IsIn-kept, IsRising-filter, map-filter}
+use Rattle.environment_sets.proofs.Membership.{AreDistinct-push, IsIn-map, map-IsIn, IsIn-slice_get}
 use Rattle.environment_sets.proofs.Slots.{slots_are_below}
 use Rattle.antichains.specs.Largest.{AreAtMost, ListsAntichain}
+use Rattle.antichains.specs.Signed.{HasSubsetAt}
 use Rattle.antichains.proofs.Larger.{as_large, filter_keeps}
 use Rattle.environment_sets.proofs.Within.{within_holds, holds_within}
 
@@ -89,13 +91,19 @@ antichain-added e old left new n m is pushed uncovered more size (distinct, anti
     )
 
 -- the one at the place is a subset
-pub covered_at : (env : Env) (es : List Env) (i : ℕ) (m : Env) → i < length es → m ≡ get_or es i m → members m ⊆ members env → IsCovered (IsIn (sets es)) (members env)
-covered_at env es i m low is within = let P : Env → Type 0 = λ x. IsIn es x in (members m, map-IsIn members es m (subst P (sym is) (IsIn-get_or es i m low)), within)
+pub subset_at : (E : Set ℕ) (es : List Env) (i : ℕ) (m : Env) → i < length es → m ≡ get_or es i m → members m ⊆ E → HasSubsetAt es i E
+subset_at E es i m low is within = (m, slice_get-get_or es i m low ∙ ap Some (sym is), within)
 
--- there is a place exactly where the claim holds
-pub some_where_covered : (r : Option ℕ) (P : Type 0) → MatchOption r (P → ⊥) (λ _. P) → IsTrue (is_some r) ↔ P
-some_where_covered None P none = (λ h. absurd (false≢true h), λ p. absurd (none p))
-some_where_covered (Some i) P holds = (λ _. holds, λ _. refl)
+pub subset_there : (E : Set ℕ) (es : List Env) (i : ℕ) (m : Env) → slice_get es i ≡ Some m → HasSubsetAt es i E → members m ⊆ E
+subset_there E es i m is (e, at, within) = let same : e ≡ m = cc in subst (λ (x : Env). members x ⊆ E) same within
+
+pub covered_at : (E : Set ℕ) (es : List Env) (i : ℕ) → HasSubsetAt es i E → IsCovered (HasMember es) E
+covered_at E es i (m, at, within) = (members m, map-IsIn members es m (IsIn-slice_get es i m at), within)
+
+-- there is a place exactly where one is a subset
+pub some_where_covered : (E : Set ℕ) (es : List Env) (r : Option ℕ) → MatchOption r (IsCovered (HasMember es) E → ⊥) (λ i. HasSubsetAt es i E) → IsTrue (is_some r) ↔ IsCovered (HasMember es) E
+some_where_covered E es None none = (λ h. absurd (false≢true h), λ p. absurd (none p))
+some_where_covered E es (Some i) there = (λ _. covered_at E es i there, λ _. refl)
 
 -- the sets of the list that are inside the mask
 pub roster-left : (es left : List Env) (mask : Set ℕ) → left ≡ filter (λ e. is_within SLOTS (members e) mask) es → AreDistinct (sets es) → IsRoster (λ E. HasMember es E × (E ⊆ mask)) (sets left)

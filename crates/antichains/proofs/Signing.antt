@@ -93,9 +93,6 @@ module _ (env : Env) (es : List Env) where
   pub not_covered : ((e : Env) → IsIn es e → members e ⊆ members env → ⊥) → IsCovered (HasMember es) (members env) → ⊥
   not_covered none (E, member, within) = let e : (e : Env) × IsIn es e × (members e ≡ E) = IsIn-map members es E member in none e.0 e.1 (subst (λ (F : Set ℕ). F ⊆ members env) (sym e.2) within)
 
-  pub covered_by : (i : ℕ) (e : Env) → slice_get es i ≡ Some e → members e ⊆ members env → IsCovered (HasMember es) (members env)
-  covered_by i e at within = (members e, map-IsIn members es e (IsIn-slice_get es i e at), within)
-
   pub not_inside : ((e : Env) → IsIn es e → members env ⊆ members e → ⊥) → IsInsideAMember es (members env) → ⊥
   not_inside none (E, member, within) = let e : (e : Env) × IsIn es e × (members e ≡ E) = IsIn-map members es E member in none e.0 e.1 (subst (λ (F : Set ℕ). members env ⊆ F) (sym e.2) within)
 

@@ -25,6 +25,10 @@ pub record AreShared (signatures shared : List ℕ) : Type 0 where
 abbrev pub NoneInBlock : ℕ → List Env → Set ℕ → Type 0
 NoneInBlock block es E = (k : ℕ) (e : Env) → k / BLOCK ≡ block → slice_get es k ≡ Some e → members e ⊆ E → ⊥
 
+-- an environment stands at the place and is a subset of the set
+abbrev pub HasSubsetAt : List Env → ℕ → Set ℕ → Type 0
+HasSubsetAt es place E = (e : Env) × (slice_get es place ≡ Some e) × (members e ⊆ E)
+
 -- the signature and the size of each environment stand at its place, and for each block what its signatures have
 pub record IsSigned (s : SignedList) : Type 0 where
   pub signatures : s.signatures.items ≡ map signature s.list.items

@@ -8,7 +8,7 @@ ghost use Rattle.environment_sets.specs.Families.{IsCovered, IsAntichain, Adds, 
 ghost use Rattle.environment_sets.specs.Orders.{ListsAll, IsOrder};
 ghost use Rattle.environment_sets.specs.Walks.{ComesAfter, GivesNextEnv, envs_left};
 ghost use Rattle.antichains.specs.Largest.{AreAtMost};
-ghost use Rattle.antichains.specs.Signed.{IsSigned, HasRoom};
+ghost use Rattle.antichains.specs.Signed.{HasSubsetAt, IsSigned, HasRoom};
 
 use crate::nearest::first_after;
 use crate::signed_list::SignedList;
@@ -138,7 +138,8 @@ impl Antichain {
     /// Whether there is a member at the place, and it is a subset of the environment. For where one place is likely, and the
     /// answer no says nothing of the others.
     pub fn covers_at(&self, env: &Env, place: usize) -> bool
-        ensures { IsTrue result → IsCovered (HasMember self.now) (members env.now) }
+        ensures here { IsTrue result ↔ HasSubsetAt self.now place (members env.now) }
+        ensures covered { IsTrue result → IsCovered (HasMember self.now) (members env.now) }
     {
         is_subset_at(&self.signed.list, place, env)
     }
@@ -146,7 +147,9 @@ impl Antichain {
     /// Whether a member is a subset of the environment. The member at the place is tried first, and where another one is
     /// found, the place becomes its: of environments that are much alike, one member often covers the next one too.
     pub fn covers_from(&self, env: &Env, place: &mut usize) -> bool
-        ensures { IsTrue result ↔ IsCovered (HasMember self.now) (members env.now) }
+        ensures covered { IsTrue result ↔ IsCovered (HasMember self.now) (members env.now) }
+        ensures place { IsTrue result → HasSubsetAt self.now place.new (members env.now) }
+        ensures kept { HasSubsetAt self.now place.old (members env.now) → place.new ≡ place.old }
     {
         if self.covers_at(env, *place) {
             return true;
@@ -207,7 +210,8 @@ fn drop_supersets(signed: &mut SignedList, env: &Env, largest: u16)
 
 // Whether there is a member at the place, and it is a subset of the environment.
 fn is_subset_at(list: &[Env], place: usize, env: &Env) -> bool
-    ensures { IsTrue result → IsCovered (HasMember list.now) (members env.now) }
+    ensures here { IsTrue result ↔ HasSubsetAt list.now place (members env.now) }
+    ensures covered { IsTrue result → IsCovered (HasMember list.now) (members env.now) }
 {
     match list.get(place) {
         Some(member) => member.is_subset(env),

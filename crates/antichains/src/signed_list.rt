@@ -5,7 +5,7 @@ ghost use Rattle.environment_sets.specs.Sets.{◌⊆◌, is_within};
 ghost use Rattle.environment_sets.specs.Members.{members, HasMember};
 ghost use Rattle.environment_sets.specs.Families.{IsCovered};
 ghost use Rattle.environment_sets.specs.Signatures.{signature as signature_of};
-ghost use Rattle.antichains.specs.Signed.{size_of, blocks_of, AreShared, IsSigned, HasRoom, IsInsideAMember, NoneInBlock};
+ghost use Rattle.antichains.specs.Signed.{size_of, blocks_of, AreShared, IsSigned, HasRoom, HasSubsetAt, IsInsideAMember, NoneInBlock};
 
 use environment_sets::{Env, SLOTS};
 use std::alloc::{AllocError, Global};
@@ -95,7 +95,7 @@ impl SignedList {
     /// most.
     pub fn place_of_subset(&self, env: &Env) -> Option<usize>
         requires { IsSigned self.now }
-        ensures { MatchOption result (IsCovered (HasMember self.now.list.items) (members env.now) → ⊥) (λ _. IsCovered (HasMember self.now.list.items) (members env.now)) }
+        ensures { MatchOption result (IsCovered (HasMember self.now.list.items) (members env.now) → ⊥) (λ place. HasSubsetAt self.now.list.items place (members env.now)) }
     {
         let signature = env.signature();
         for block in (0..self.shared.len()).rev() {
@@ -123,7 +123,7 @@ impl SignedList {
         requires signed { IsSigned self.now }
         requires inside { block < length self.now.shared.items }
         requires signature { signature ≡ signature_of env.now }
-        ensures { MatchOption result (NoneInBlock block self.now.list.items (members env.now)) (λ _. IsCovered (HasMember self.now.list.items) (members env.now)) }
+        ensures { MatchOption result (NoneInBlock block self.now.list.items (members env.now)) (λ place. HasSubsetAt self.now.list.items place (members env.now)) }
     {
         let start = block * BLOCK;
         let end = start + BLOCK.min(self.list.len() - start);

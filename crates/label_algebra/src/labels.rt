@@ -6,6 +6,7 @@ ghost use Rattle.environment_sets.specs.Members.{members, HasMember};
 ghost use Rattle.environment_sets.specs.Families.{IsCovered, IsAntichain, Adds, Drops, AreInside};
 ghost use Rattle.environment_sets.specs.Orders.{ListsAll, IsOrder};
 ghost use Rattle.environment_sets.specs.Walks.{GivesNextEnv, envs_left};
+ghost use Rattle.antichains.specs.Signed.{HasSubsetAt};
 
 use antichains::{Antichain, Inserted};
 use environment_sets::{Env, SLOTS};
@@ -84,7 +85,8 @@ impl Label {
     /// Whether there is a member at the place, and it is a subset of the environment. For where one place is likely, and the
     /// answer no says nothing of the others.
     pub fn covers_at(&self, env: &Env, place: usize) -> bool
-        ensures { IsTrue result → IsCovered (HasMember self.now) (members env.now) }
+        ensures here { IsTrue result ↔ HasSubsetAt self.now place (members env.now) }
+        ensures covered { IsTrue result → IsCovered (HasMember self.now) (members env.now) }
     {
         self.antichain.covers_at(env, place)
     }
@@ -92,7 +94,9 @@ impl Label {
     /// Whether a member is a subset of the environment. The member at the place is tried first, and where another one is
     /// found, the place becomes its: of environments that are much alike, one member often covers the next one too.
     pub fn covers_from(&self, env: &Env, place: &mut usize) -> bool
-        ensures { IsTrue result ↔ IsCovered (HasMember self.now) (members env.now) }
+        ensures covered { IsTrue result ↔ IsCovered (HasMember self.now) (members env.now) }
+        ensures place { IsTrue result → HasSubsetAt self.now place.new (members env.now) }
+        ensures kept { HasSubsetAt self.now place.old (members env.now) → place.new ≡ place.old }
     {
         self.antichain.covers_from(env, place)
     }

@@ -7,6 +7,7 @@ ghost use Rattle.environment_sets.specs.Sets.{◌⊆◌};
 ghost use Rattle.environment_sets.specs.Families.{IsCovered, IsAntichain, Adds, Drops, AreInside};
 ghost use Rattle.environment_sets.specs.Orders.{ListsAll, IsOrder};
 ghost use Rattle.environment_sets.specs.Walks.{GivesNextEnv, envs_left};
+ghost use Rattle.antichains.specs.Signed.{HasSubsetAt};
 
 use antichains::{Antichain, Inserted};
 use environment_sets::{Env, SLOTS};
@@ -86,7 +87,9 @@ impl Nogoods {
     /// Whether a member is a subset of the environment. The member at the place is tried first, and where another one is
     /// found, the place becomes its: of environments that are much alike, one member often covers the next one too.
     pub fn covers_from(&self, env: &Env, place: &mut usize) -> bool
-        ensures { IsTrue result ↔ IsCovered (HasMember self.now) (members env.now) }
+        ensures covered { IsTrue result ↔ IsCovered (HasMember self.now) (members env.now) }
+        ensures place { IsTrue result → HasSubsetAt self.now place.new (members env.now) }
+        ensures kept { HasSubsetAt self.now place.old (members env.now) → place.new ≡ place.old }
     {
         self.antichain.covers_from(env, place)
     }

@@ -29,5 +29,5 @@ returns c =
 
 pub returns-then-covers_from : goal.returns-then-covers_from
 returns-then-covers_from c =
-    let cover : IsCovered (HasMember c.in-Some.kept.now) (members c.begun_union-begun.result.env) = c.covers_from.ensures.0 c.if-covers_from.true in
+    let cover : IsCovered (HasMember c.in-Some.kept.now) (members c.begun_union-begun.result.env) = c.covers_from.ensures.covered.0 c.if-covers_from.true in
     all_reached c.args.item.now c.args.nodes.now c.args.label.now c.args.due.now.items c.begun_union-begun.result c.begun_union-begun.ensures (inl (cover.0, c.in-Some.ensures cover.0 cover.1, cover.2))

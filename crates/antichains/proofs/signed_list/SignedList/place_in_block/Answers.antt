@@ -3,7 +3,6 @@ use Rattle.std.specs.List.{slice_get}
 use Rattle.std.proofs.lemmas.Option.{slice_get-get_or}
 use Rattle.environment_sets.specs.Sets.{◌⊆◌}
 use Rattle.environment_sets.specs.Members.{members}
-use Rattle.antichains.proofs.Signing.{covered_by}
 use Rattle.antichains.proofs.Blocks.{none_behind_end, none_behind_in_more, none_in_block}
 use Rattle.antichains.proofs.signed_list.SignedList.place_in_block.Goals as goal
 
@@ -17,7 +16,7 @@ returns-then-is_subset_at c =
     let env = c.args.env.now in
     let low : i < length es = omega (arith, c.loop-place.auto.place, c.min.ensures, c.len.ensures, c.args.self.now.list.ok.0, c.loop-place-test.true) in
     let at : slice_get es i ≡ Some (get_or es i env) = slice_get-get_or es i env low in
-    covered_by env es i (get_or es i env) at ((c.is_subset_at.ensures (get_or es i env) at).0 c.if-is_subset_at.true)
+    (get_or es i env, at, (c.is_subset_at.ensures (get_or es i env) at).0 c.if-is_subset_at.true)
 
 pub loop-place-preserved : goal.loop-place-preserved
 loop-place-preserved c =
