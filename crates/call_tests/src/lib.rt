@@ -4,10 +4,6 @@
 #[cfg(test)]
 mod agenda;
 #[cfg(test)]
-mod chains;
-#[cfg(test)]
-mod circuits;
-#[cfg(test)]
 mod engine;
 #[cfg(test)]
 mod hitting;

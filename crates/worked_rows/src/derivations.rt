@@ -8,11 +8,8 @@ use crate::presents::session_of;
 use circuit_model::{Cell, Cells, Chosen, Fact, Places, Present};
 use proof_check::{Derivation, Ending, Goal, Step, Steps, check};
 use std::alloc::{AllocError, Global};
+use std::fs;
 use std::test::Fail;
-
-// The polybox: M1, M2, M3, A1 and A2 over A to G.
-const POLYBOX: &[u8] =
-    b"net A 4\nnet B 4\nnet C 4\nnet D 4\nnet E 4\nnet X 8\nnet Y 8\nnet Z 8\nnet F 8\nnet G 8\nmul M1 A C X\nmul M2 B D Y\nmul M3 C E Z\nadd A1 X Y F\nadd A2 Y Z G\nmeasure A 3\nmeasure B 2\nmeasure C 2\nmeasure D 3\nmeasure E 3\nmeasure F 10\nmeasure G 12\n";
 
 fn fact(net: u16, value: u64) -> Fact {
     Fact {
@@ -50,21 +47,14 @@ fn steps_to_a_refutation(alloc: Global) -> Result<Vec<Step>, AllocError> {
 }
 
 // M1 is refuted by A=3 and X=4.
-const REFUTATION: Ending = Ending::Refuted {
-    part: 0,
-    instance: 0,
-    ports: 5,
-    from: [
-        Some(Fact {
-            cell: Cell { net: 0, cycle: 0 },
-            value: 3,
-        }),
-        Some(Fact {
-            cell: Cell { net: 5, cycle: 0 },
-            value: 4,
-        }),
-    ],
-};
+fn refutation() -> Ending {
+    Ending::Refuted {
+        part: 0,
+        instance: 0,
+        ports: 5,
+        from: [Some(fact(0, 3)), Some(fact(5, 4))],
+    }
+}
 
 // A=3, C=2, E=3, F=10 and G=12 are measured, X=6 by M1, Z=6 by M3, Y=4 by A1, and Y=6 by A2.
 fn steps_to_two_words(alloc: Global) -> Result<Vec<Step>, AllocError> {
@@ -81,11 +71,13 @@ fn steps_to_two_words(alloc: Global) -> Result<Vec<Step>, AllocError> {
     ]?)
 }
 
-const TWO_WORDS: Ending = Ending::TwoValues {
-    cell: Cell { net: 6, cycle: 0 },
-    low: 4,
-    high: 6,
-};
+fn two_words() -> Ending {
+    Ending::TwoValues {
+        cell: Cell { net: 6, cycle: 0 },
+        low: 4,
+        high: 6,
+    }
+}
 
 // All components, and the measured cells of the first cycle.
 fn everything(alloc: Global, present: &Present) -> Result<Chosen, AllocError> {
@@ -172,100 +164,107 @@ fn with_change(alloc: Global, steps: &[Step], changed: Changed) -> Result<Steps,
     Ok(other)
 }
 
-// What is changed, the ending, the goal, and whether the checker takes it.
-type Row = (Changed, Ending, Goal, bool);
-
-// Steps may stand in any order in which each comes after those that it is inferred from. Of the steps to two words any two
-// neighbours may be exchanged, but Y=4 may not come before X=6. No step may be left out. The words at the ports X and Z of
-// the adder force the third; told with the number of other ports they show nothing.
-const TO_TWO_WORDS: [Row; 29] = [
-    (Changed::Nothing, TWO_WORDS, Goal::Clash, true),
-    (
-        Changed::Nothing,
-        TWO_WORDS,
-        Goal::Value(Fact {
-            cell: Cell { net: 6, cycle: 0 },
-            value: 4,
-        }),
-        false,
-    ),
-    (Changed::LeftOut(0), TWO_WORDS, Goal::Clash, false),
-    (Changed::LeftOut(1), TWO_WORDS, Goal::Clash, false),
-    (Changed::LeftOut(2), TWO_WORDS, Goal::Clash, false),
-    (Changed::LeftOut(3), TWO_WORDS, Goal::Clash, false),
-    (Changed::LeftOut(4), TWO_WORDS, Goal::Clash, false),
-    (Changed::LeftOut(5), TWO_WORDS, Goal::Clash, false),
-    (Changed::LeftOut(6), TWO_WORDS, Goal::Clash, false),
-    (Changed::LeftOut(7), TWO_WORDS, Goal::Clash, false),
-    (Changed::LeftOut(8), TWO_WORDS, Goal::Clash, false),
-    (Changed::Exchanged(0, 1), TWO_WORDS, Goal::Clash, true),
-    (Changed::Exchanged(1, 2), TWO_WORDS, Goal::Clash, true),
-    (Changed::Exchanged(2, 3), TWO_WORDS, Goal::Clash, true),
-    (Changed::Exchanged(3, 4), TWO_WORDS, Goal::Clash, true),
-    (Changed::Exchanged(4, 5), TWO_WORDS, Goal::Clash, true),
-    (Changed::Exchanged(5, 6), TWO_WORDS, Goal::Clash, true),
-    (Changed::Exchanged(6, 7), TWO_WORDS, Goal::Clash, true),
-    (Changed::Exchanged(7, 8), TWO_WORDS, Goal::Clash, true),
-    (Changed::Exchanged(5, 7), TWO_WORDS, Goal::Clash, false),
-    (Changed::OtherPorts(7, 0), TWO_WORDS, Goal::Clash, false),
-    (Changed::OtherPorts(7, 1), TWO_WORDS, Goal::Clash, false),
-    (Changed::OtherPorts(7, 2), TWO_WORDS, Goal::Clash, false),
-    (Changed::OtherPorts(7, 3), TWO_WORDS, Goal::Clash, false),
-    (Changed::OtherPorts(7, 4), TWO_WORDS, Goal::Clash, false),
-    (Changed::OtherPorts(7, 5), TWO_WORDS, Goal::Clash, true),
-    (Changed::OtherPorts(7, 6), TWO_WORDS, Goal::Clash, false),
-    (Changed::OtherPorts(7, 7), TWO_WORDS, Goal::Clash, false),
-    (Changed::OtherPorts(7, 8), TWO_WORDS, Goal::Clash, false),
-];
-
-// Of these steps X=4 comes last, and right after Y=6, which it is inferred from.
-const TO_A_REFUTATION: [Row; 7] = [
-    (Changed::Exchanged(0, 1), REFUTATION, Goal::Clash, true),
-    (Changed::Exchanged(1, 2), REFUTATION, Goal::Clash, true),
-    (Changed::Exchanged(2, 3), REFUTATION, Goal::Clash, true),
-    (Changed::Exchanged(3, 4), REFUTATION, Goal::Clash, true),
-    (Changed::Exchanged(4, 5), REFUTATION, Goal::Clash, false),
-    (
-        Changed::Nothing,
-        Ending::Holds,
-        Goal::Value(Fact {
-            cell: Cell { net: 5, cycle: 0 },
-            value: 4,
-        }),
-        true,
-    ),
-    (
-        Changed::Nothing,
-        Ending::Holds,
-        Goal::Value(Fact {
-            cell: Cell { net: 5, cycle: 0 },
-            value: 5,
-        }),
-        false,
-    ),
-];
-
-// Whether each row is judged so, of these steps.
-fn are_judged(alloc: Global, steps: &[Step], rows: &[Row]) -> Result<bool, Fail> {
-    let session = session_of(alloc, POLYBOX)?;
-    let present = session.present();
-    let all = everything(alloc, present)?;
-    for (changed, ending, goal, judged) in rows {
-        let derivation = Derivation {
-            steps: with_change(alloc, steps, *changed)?,
-            ending: *ending,
-        };
-        if check(&derivation, present, &all, *goal) != *judged {
-            return Ok(false);
-        }
+// A change by its number, and whether the steps to two words still show the clash: no step may be left out; any two
+// neighbours may be exchanged, but Y=4 may not come before X=6; and the words at the ports X and Z of the adder force the
+// third, but told with the number of other ports they show nothing.
+fn change_at(number: usize) -> (Changed, bool) {
+    match number {
+        0..=8 => (Changed::LeftOut(number), false),
+        9..=16 => (Changed::Exchanged(number - 9, number - 8), true),
+        17 => (Changed::Exchanged(5, 7), false),
+        18..=26 => (Changed::OtherPorts(7, (number - 18) as u8), number == 23),
+        _ => (Changed::Nothing, true),
     }
-    Ok(true)
+}
+
+// What the checker is given besides the steps: a present, all of it, an ending and a goal.
+#[derive(Clone, Copy)]
+struct Asked<'a> {
+    present: &'a Present,
+    all: &'a Chosen,
+    ending: Ending,
+    goal: Goal,
+}
+
+// What it says of the steps with this changed.
+fn says(
+    alloc: Global,
+    steps: &[Step],
+    changed: Changed,
+    asked: &Asked<'_>,
+) -> Result<bool, AllocError> {
+    let derivation = Derivation {
+        steps: with_change(alloc, steps, changed)?,
+        ending: asked.ending,
+    };
+    Ok(check(&derivation, asked.present, asked.all, asked.goal))
 }
 
 #[test]
-fn one_thing_changed(rt: HostRuntime) -> Result<(), Fail> {
+fn two_words_with_one_thing_changed(rt: HostRuntime) -> Result<(), Fail> {
     let alloc = rt.alloc();
-    assert!(rt; are_judged(alloc, &steps_to_two_words(alloc)?, &TO_TWO_WORDS)?);
-    assert!(rt; are_judged(alloc, &steps_to_a_refutation(alloc)?, &TO_A_REFUTATION)?);
+    let session = session_of(alloc, &fs::read(&rt, "polybox.gde")?)?;
+    let all = everything(alloc, session.present())?;
+    let steps = steps_to_two_words(alloc)?;
+    let asked = Asked {
+        present: session.present(),
+        all: &all,
+        ending: two_words(),
+        goal: Goal::Clash,
+    };
+    for number in 0..28 {
+        let (changed, judged) = change_at(number);
+        assert!(rt; says(alloc, &steps, changed, &asked)? == judged, "{number}");
+    }
+    let value = Asked {
+        goal: Goal::Value(fact(6, 4)),
+        ..asked
+    };
+    assert!(rt; !says(alloc, &steps, Changed::Nothing, &value)?);
+    Ok(())
+}
+
+// Of these steps X=4 comes last, and right after Y=6, which it is inferred from.
+#[test]
+fn a_refutation_with_steps_exchanged(rt: HostRuntime) -> Result<(), Fail> {
+    let alloc = rt.alloc();
+    let session = session_of(alloc, &fs::read(&rt, "polybox.gde")?)?;
+    let all = everything(alloc, session.present())?;
+    let steps = steps_to_a_refutation(alloc)?;
+    let asked = Asked {
+        present: session.present(),
+        all: &all,
+        ending: refutation(),
+        goal: Goal::Clash,
+    };
+    for place in 1..6 {
+        let changed = Changed::Exchanged(place - 1, place);
+        assert!(rt;
+            says(alloc, &steps, changed, &asked)? == (place != 5),
+            "{place}"
+        );
+    }
+    Ok(())
+}
+
+// The last of the steps to a refutation shows X=4, and no other word.
+#[test]
+fn a_value_is_shown(rt: HostRuntime) -> Result<(), Fail> {
+    let alloc = rt.alloc();
+    let session = session_of(alloc, &fs::read(&rt, "polybox.gde")?)?;
+    let all = everything(alloc, session.present())?;
+    let steps = steps_to_a_refutation(alloc)?;
+    for value in [4, 5] {
+        let asked = Asked {
+            present: session.present(),
+            all: &all,
+            ending: Ending::Holds,
+            goal: Goal::Value(fact(5, value)),
+        };
+        assert!(rt;
+            says(alloc, &steps, Changed::Nothing, &asked)? == (value == 4),
+            "{value}"
+        );
+    }
     Ok(())
 }

@@ -6,26 +6,14 @@ use bench_cli::run;
 use bench_io::{MemorySink, MemorySource};
 use propagation_agenda::{Newest, Oldest, Picker, Seeded};
 use std::alloc::Global;
+use std::fs;
 use std::test::Fail;
 
-// The polybox, and each word of N gives the next one, until it is found that N has two words.
-const CIRCUITS: &[u8] =
-    b"net A 4\nnet B 4\nnet C 4\nnet D 4\nnet E 4\nnet X 8\nnet Y 8\nnet Z 8\nnet F 8\nnet G 8\n\
-    mul M1 A C X\nmul M2 B D Y\nmul M3 C E Z\nadd A1 X Y F\nadd A2 Y Z G\n\
-    measure A 3\nmeasure B 2\nmeasure C 2\nmeasure D 3\nmeasure E 3\nmeasure F 10\nmeasure G 12\n\
-    net N 32\nnet O 32\nmeasure N 5\nmeasure O 1\nadd S N O N\ncost S 3\n";
-
-// It goes on, goes back, and asks.
-const MIXED: &[u8] =
-    b"retract F\nconflicts\ndiagnose\nlabel X\nlabel F\nlabel O\nmeasure F 10\nconflicts\n\
-    cost M2 1\ncost M3 1\ndiagnose\nprobe\nundo\nundo\ndiagnose\nwhy 1\nwhy 2\nexplain X 4\nexplain X 5\n\
-    retract G\nmeasure X 4\nlabel G\nundo\nnet K 4\nconst T K 3\nundo\nundo\nundo\nfirst 3\n";
-
-// Both, the second so many times.
-fn session(alloc: Global, times: usize) -> Result<Vec<u8>, Fail> {
-    let mut text = Vec::from_slice(alloc, CIRCUITS)?;
+// The lines of the circuits, and of what goes on, goes back and asks, so many times.
+fn session(alloc: Global, circuits: &[u8], mixed: &[u8], times: usize) -> Result<Vec<u8>, Fail> {
+    let mut text = Vec::from_slice(alloc, circuits)?;
     for _time in 0..times {
-        text.extend_from_slice(MIXED)?;
+        text.extend_from_slice(mixed)?;
     }
     Ok(text)
 }
@@ -58,7 +46,9 @@ fn picked<P: Picker>(alloc: Global, picker: &mut P, text: &[u8]) -> Result<Memor
 #[test]
 fn in_every_order(rt: HostRuntime) -> Result<(), Fail> {
     let alloc = rt.alloc();
-    let text = session(alloc, 8)?;
+    let circuits = fs::read(&rt, "orders_circuits.gde")?;
+    let mixed = fs::read(&rt, "orders_mixed.gde")?;
+    let text = session(alloc, &circuits, &mixed, 8)?;
     let oldest = picked(alloc, &mut Oldest, &text)?;
     assert!(rt; lines_ended(oldest.held()) > 300);
     let newest = picked(alloc, &mut Newest, &text)?;

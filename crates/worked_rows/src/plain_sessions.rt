@@ -7,28 +7,20 @@ use bench_cli::Status;
 use circuit_model::Present;
 use plain_answers::{Environment, diagnoses};
 use std::alloc::{AllocError, Global};
+use std::fs;
 use std::test::Fail;
 
 // Circuits with gates, registers and costs, in most of which something was seen that does not fit.
-const CIRCUITS: [&[u8]; 9] = [
-    // a full adder
-    b"net A 1\nnet B 1\nnet C 1\nnet P 1\nnet S 1\nnet Q 1\nnet R 1\nnet T 1\nxor X1 A B P\nxor X2 P C S\nand A1 A B Q\nand A2 P C R\nor O1 Q R T\ncost X1 9\ncost A2 2\ncost O1 3\nmeasure A 1\nmeasure B 0\nmeasure C 1\nmeasure S 1\nmeasure T 0\n",
-    // a register that counts by threes, with a copy of what it holds
-    b"cycles 3\nnet E 4\nnet D 4\nnet Q 4\nnet O 4\nnet N 4\nadd S Q E D\nreg R D Q 0\nbuf U Q O\nnot V O N\ncost S 7\ncost R 5\ncost U 2\ncost V 1\nmeasure E 3\nmeasure E@1 3\nmeasure O@1 3\nmeasure O@2 7\nmeasure N@2 9\n",
-    // six gates
-    b"net N1 1\nnet N2 1\nnet N3 1\nnet N6 1\nnet N7 1\nnet N10 1\nnet N11 1\nnet N16 1\nnet N19 1\nnet N22 1\nnet N23 1\nnand G10 N1 N3 N10\nnand G11 N3 N6 N11\nnand G16 N2 N11 N16\nnand G19 N11 N7 N19\nnand G22 N10 N16 N22\nnand G23 N16 N19 N23\ncost G10 1\ncost G11 2\ncost G16 3\ncost G22 20\nmeasure N1 1\nmeasure N2 1\nmeasure N3 1\nmeasure N6 1\nmeasure N7 1\nmeasure N22 0\nmeasure N23 1\n",
-    // the polybox: one output of two is wrong
-    b"net A 4\nnet B 4\nnet C 4\nnet D 4\nnet E 4\nnet X 8\nnet Y 8\nnet Z 8\nnet F 8\nnet G 8\nmul M1 A C X\nmul M2 B D Y\nmul M3 C E Z\nadd A1 X Y F\nadd A2 Y Z G\nmeasure A 3\nmeasure B 2\nmeasure C 2\nmeasure D 3\nmeasure E 3\nmeasure F 10\nmeasure G 12\n",
-    // the same where one adder and two multipliers fail more often, and one multiplier less
-    b"net A 4\nnet B 4\nnet C 4\nnet D 4\nnet E 4\nnet X 8\nnet Y 8\nnet Z 8\nnet F 8\nnet G 8\nmul M1 A C X\nmul M2 B D Y\nmul M3 C E Z\nadd A1 X Y F\nadd A2 Y Z G\ncost A2 1\ncost M2 1\ncost M3 1\ncost M1 9\nmeasure A 3\nmeasure B 2\nmeasure C 2\nmeasure D 3\nmeasure E 3\nmeasure F 10\nmeasure G 12\n",
-    // a word is lost on its way through two registers
-    b"cycles 4\nnet D 4\nnet E 4\nnet Q 4\nreg R D E 0\nreg S E Q 0\nmeasure D 5\nmeasure D@1 6\nmeasure Q@2 7\n",
-    // a sum that is kept from cycle to cycle
-    b"cycles 3\nnet A 8\nnet S 8\nnet N 8\nadd P A S N\nreg R N S 0\ncost R 7\nmeasure A 1\nmeasure A@1 2\nmeasure A@2 3\nmeasure N@2 5\n",
-    // nothing is wrong, so there is one diagnosis
-    b"net A 4\nnet B 4\nnot N A B\nmeasure A 5\nmeasure B 10\n",
-    // one buffer of three passes a wrong word on
-    b"net A 4\nnet B 4\nnet C 4\nnet D 4\nbuf P A B\nbuf Q B C\nbuf R C D\nmeasure A 5\nmeasure D 6\n",
+const CIRCUITS: [&str; 9] = [
+    "full_adder.gde",
+    "counter.gde",
+    "six_gates.gde",
+    "polybox.gde",
+    "polybox_costs.gde",
+    "two_registers.gde",
+    "running_sum.gde",
+    "sound.gde",
+    "chain.gde",
 ];
 
 // Its components, by their places.
@@ -105,7 +97,8 @@ fn expected(alloc: Global, lines: &[u8]) -> Result<Vec<u8>, Fail> {
     let found = diagnoses(alloc, present)?;
     let rows = listed(alloc, present, &found)?;
     let mut replies = Vec::new(alloc);
-    for _line in 0..lines_ended(lines) {
+    // The first line is a comment, which has no reply.
+    for _line in 1..lines_ended(lines) {
         replies.extend_from_slice(b"ok\n")?;
     }
     write_rows(&mut replies, present, &rows)?;
@@ -127,9 +120,10 @@ fn is_answered(alloc: Global, lines: &[u8], replies: &[u8]) -> Result<bool, Fail
 
 #[test]
 fn sessions_give_the_plain_answers(rt: HostRuntime) -> Result<(), Fail> {
-    for (i, lines) in CIRCUITS.iter().enumerate() {
-        let replies = expected(rt.alloc(), lines)?;
-        assert!(rt; is_answered(rt.alloc(), lines, &replies)?, "circuit {i}");
+    for name in CIRCUITS {
+        let lines = fs::read(&rt, name)?;
+        let replies = expected(rt.alloc(), &lines)?;
+        assert!(rt; is_answered(rt.alloc(), &lines, &replies)?, "{name}");
     }
     Ok(())
 }
