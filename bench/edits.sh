@@ -38,7 +38,7 @@ for name in "${names[@]}"; do
     mkdir "$copy/crates/$name/must-fail"
     cp "${edits[@]}" "$copy/crates/$name/must-fail/"
     (cd "$copy" && rt must-fail "$name") > "$room/said" 2>&1
-    cat "$room/said"
+    grep "must-fail $name/" "$room/said" || cat "$room/said"
     refused=$((refused + $(grep -c ': refused, as it must be' "$room/said")))
 done
 echo "edits: $refused of $tried refused"
