@@ -4,6 +4,8 @@
 #[cfg(test)]
 mod agenda;
 #[cfg(test)]
+mod chains;
+#[cfg(test)]
 mod engine;
 #[cfg(test)]
 mod hitting;
