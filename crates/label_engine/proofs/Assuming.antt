@@ -1,5 +1,5 @@
 -- The stock without the slot, and what begins an assumption at the slot.
-use Rattle.std.proofs.Common.{◌≡◌, ◌≢◌, ℕ, zero, ◌⊎◌, inl, inr, Bool, true, false, ◌==◌, cond, IsTrue, IsFalse, true≢false, refl, sym, ap, subst, ◌∙◌, List, [], ◌∷◌, ◌++◌, map, filter, Option, Some, None, IsSome, append_assoc, append-nil, ◌+◌, ◌<◌, length, take, get_or, arith}
+use Rattle.std.proofs.Common.{◌≡◌, ◌≢◌, ◌↔◌, ℕ, zero, ◌⊎◌, inl, inr, Bool, true, false, ◌==◌, cond, IsTrue, IsFalse, true≢false, refl, sym, ap, subst, ◌∙◌, List, [], ◌∷◌, ◌++◌, map, filter, Option, Some, None, IsSome, append_assoc, append-nil, ◌+◌, ◌<◌, length, take, get_or, arith}
 use Rattle.environment_sets.proofs.Listings.{IsIn-filter, IsIn-kept}
 use Rattle.environment_sets.proofs.Membership.{IsIn-append, IsIn-left, IsIn-map, IsIn-right, map-IsIn}
 use Rattle.std.specs.Option.{option_or, is_none}
@@ -17,16 +17,17 @@ use Rattle.environment_sets.specs.Sets.{Set, ◌⊆◌, only}
 use Rattle.environment_sets.specs.Members.{members, HasMember}
 use Rattle.environment_sets.specs.Lists.{IsIn}
 use Rattle.propagation.specs.Propagating.{Target, RecordedInference, HasAt, HasMaker, AreChosen, SomeWaits, IsDue, IsSound, HasInference, All, AreRecorded, IsPendingSound, IsWaitingSound, IsPropagating}
-use Rattle.propagation.proofs.Start.{NoItem, start_reading, start_part, choice_reached, sound_of_settled}
+use Rattle.propagation.proofs.Start.{NoItem, NoArrival, start_reading, start_part, choice_reached, sound_of_settled}
 use Rattle.propagation.proofs.Entry.{leads_more, sound_more}
 use Rattle.propagation.proofs.Unions.{leads_on}
 use Rattle.propagation.proofs.Whole as whole
 use Rattle.label_engine.specs.declared.node.Node.{Node}
 use Rattle.label_engine.specs.declared.node.Insertion.{Insertion}
+use Rattle.label_engine.specs.declared.update.Arrival.{Arrival}
 use Rattle.label_engine.specs.declared.update.Pending.{Pending}
 use Rattle.label_engine.specs.declared.update.Update.{Update}
 use Rattle.label_engine.specs.Nodes.{facts_of, label_in, KeptIn}
-use Rattle.label_engine.specs.Update.{before, DueIn, WaitsIn, Holds, IsAtRest, some_fact, goes_from_none, due_with, item_at, items_with, items_from}
+use Rattle.label_engine.specs.Update.{before, DueIn, IsAtHand, HasCome, Holds, IsAtRest, some_fact, goes_from_none, due_with, item_at, items_with, items_from}
 use Rattle.inference_search.specs.declared.inferred.Inferred.{Inferred}
 use Rattle.assumption_slots.specs.Slots.{stock}
 use Rattle.inference_search.specs.Inferences.{facts, inference, RecordedIn}
@@ -156,6 +157,9 @@ module _ (slots : List (Option Assumption)) (w : Update) (rest : IsAtRest (befor
   more : HasOneMore ℕ S (stock slots) w.slot
   more = one_more_slot slots w.slot
 
+  none_came : (f : Fact) (E : Set ℕ) → NoArrival f E ↔ HasCome [] f E
+  none_came f E = ((λ (h : ⊥). absurd h), (λ (h : HasCome [] f E). h.1))
+
   -- a reading: its own environment is due
   module _ (f : Fact) (reads : stock slots w.slot ≡ Some (Reading f)) where
     abbrev First : Insertion
@@ -182,18 +186,18 @@ module _ (slots : List (Option Assumption)) (w : Update) (rest : IsAtRest (befor
     alone : (E : Set ℕ) → IsTrue (E w.slot) → IsCovered (DueIn (First ∷ []) (Some f)) E
     alone E h = (members env, (First, inl refl, refl, refl), only_inside slots w.slot env is E h)
 
-    first_due : Holds slots w.slot w.nodes w.recorded (First ∷ []) []
+    first_due : Holds slots w.slot w.nodes w.recorded (First ∷ []) [] []
     first_due =
-        let was : IsPropagating (stock slots) w.slot Met (KeptIn w.nodes) Old (DueIn (First ∷ [])) NoItem =
+        let was : IsPropagating (stock slots) w.slot Met (KeptIn w.nodes) Old (DueIn (First ∷ [])) NoItem NoArrival =
         start_reading S (stock slots) w.slot more (decide w.slot) Met (KeptIn w.nodes) Old rest.up_to_date.settled rest.up_to_date.are rest.up_to_date.were_met (DueIn (First ∷ []))
         (record { environments = due_environment; sound = due_has }) f reads alone in
-        whole.reordered (stock slots) w.slot Met (KeptIn w.nodes) Old (DueIn (First ∷ [])) NoItem was (DueIn (First ∷ [])) (WaitsIn [])
-        (λ t E. ((λ (k : DueIn (First ∷ []) t E). k), (λ (k : DueIn (First ∷ []) t E). k))) (λ j g m. ((λ (h : ⊥). absurd h), (λ (h : WaitsIn [] j g m). h.1)))
+        whole.reordered (stock slots) w.slot Met (KeptIn w.nodes) Old (DueIn (First ∷ [])) NoItem NoArrival was (DueIn (First ∷ [])) (IsAtHand []) (HasCome [])
+        (λ t E. ((λ (k : DueIn (First ∷ []) t E). k), (λ (k : DueIn (First ∷ []) t E). k))) (λ j g m. ((λ (h : ⊥). absurd h), (λ (h : IsAtHand [] j g m). h.1))) none_came
 
-    pub reading_begins : (dues : List Insertion) → dues ≡ w.due.items ++ First ∷ [] → Holds slots w.slot w.nodes w.recorded dues w.agenda
-    reading_begins dues e = rw (e, rest.none_due, rest.nothing_waits) first_due
+    pub reading_begins : (dues : List Insertion) → dues ≡ w.due.items ++ First ∷ [] → Holds slots w.slot w.nodes w.recorded dues w.work.items w.agenda
+    reading_begins dues e = rw (e, rest.none_due, rest.none_at_hand, rest.nothing_waits) first_due
 
-  -- a component: its inferences are recorded, and what they lead to is due or waits
+  -- a component: its inferences are recorded, and what they lead to is due or at hand
   module _ (part : List Instance) (works : stock slots w.slot ≡ Some (Part part)) (all found : List Inferred) (made : AreMadeBy slots (facts_of w.nodes.list.items) w.slot all) (needed : AreNeeded w.recorded all found) where
     abbrev New : List Inferred
     New = w.recorded ++ found
@@ -242,7 +246,7 @@ module _ (slots : List (Option Assumption)) (w : Update) (rest : IsAtRest (befor
     sound_now : IsSound (stock slots) (KeptIn w.nodes)
     sound_now = sound_more S (stock slots) w.slot more (KeptIn w.nodes) (sound_of_settled S (KeptIn w.nodes) rest.up_to_date.settled)
 
-    waiting : IsWaitingSound (stock slots) (RecordedIn New) (WaitsIn Items)
+    waiting : IsWaitingSound (stock slots) (RecordedIn New) (IsAtHand Items)
     waiting = record {
       inference = λ j f E x. (x.0.inferred, IsIn-right w.recorded found x.0.inferred (of_items w.nodes.list.items found x.0 x.1).found, x.2);
       antecedent = λ j f E x.
@@ -287,10 +291,10 @@ module _ (slots : List (Option Assumption)) (w : Update) (rest : IsAtRest (befor
           subst P (ap (λ (x : Insertion). members x.env) i.3 ∙ d.3) (subst Q (ap (λ (x : Insertion). x.target) i.3 ∙ d.2) (due_leads i.0 i.1 i.2));
     }
 
-    -- each choice for an inference of the component is due, or waits at one of its facts
+    -- each choice for an inference of the component is due, or at hand with one of its facts
     module _ (i : Inferred) (of_found : IsIn found i) (E : Set ℕ) (maker : HasMaker i.maker E) where
       abbrev IsSeenTo : List Fact → List (Set ℕ) → Type 0
-      IsSeenTo from ms = IsDue (KeptIn w.nodes) (DueIn Dues) i.to E ⊎ SomeWaits (WaitsIn Items (inference i)) from ms
+      IsSeenTo from ms = IsDue (KeptIn w.nodes) (DueIn Dues) i.to E ⊎ SomeWaits (IsAtHand Items (inference i)) from ms
 
       slot_in : IsTrue (E w.slot)
       slot_in = maker w.slot (makes i of_found)
@@ -298,34 +302,39 @@ module _ (slots : List (Option Assumption)) (w : Update) (rest : IsAtRest (befor
       due_there : IsTrue (goes_from_none i) → IsDue (KeptIn w.nodes) (DueIn Dues) i.to E
       due_there none = inr (members env, (due_with env i, map-IsIn (due_with env) (filter goes_from_none found) i (IsIn-kept goes_from_none found i of_found none), refl, refl), only_inside slots w.slot env is E slot_in)
 
-      waits_there : (f : Fact) (m : Set ℕ) → some_fact i ≡ Some f → KeptIn w.nodes (Some f) m → WaitsIn Items (inference i) f m
-      waits_there f m at k =
+      is_there : (f : Fact) (m : Set ℕ) → some_fact i ≡ Some f → KeptIn w.nodes (Some f) m → IsAtHand Items (inference i) f m
+      is_there f m at k =
           let x : (x : Pending) × IsIn Items x × (x.inferred ≡ i) × (x.at ≡ f) × (members x.env ≡ m) = in_items w.nodes.list.items found i f m of_found at k in
           (x.0, x.1, ap inference x.2, x.3, x.4)
 
       seen_to : (a b : Option Fact) → i.first ≡ a → i.second ≡ b → (ms : List (Set ℕ)) → AreChosen (KeptIn w.nodes) E (facts a b) ms → IsSeenTo (facts a b) ms
       seen_to None None ea eb ms c = inl (due_there (rw (ea, eb) refl))
       seen_to (Some a) None ea eb [] c = absurd c
-      seen_to (Some a) None ea eb (m ∷ ms) c = inr (inl (waits_there a m (rw ea refl) c.0))
+      seen_to (Some a) None ea eb (m ∷ ms) c = inr (inl (is_there a m (rw ea refl) c.0))
       seen_to None (Some b) ea eb [] c = absurd c
-      seen_to None (Some b) ea eb (m ∷ ms) c = inr (inl (waits_there b m (rw (ea, eb) refl) c.0))
+      seen_to None (Some b) ea eb (m ∷ ms) c = inr (inl (is_there b m (rw (ea, eb) refl) c.0))
       seen_to (Some a) (Some b) ea eb [] c = absurd c
-      seen_to (Some a) (Some b) ea eb (m ∷ ms) c = inr (inl (waits_there a m (rw ea refl) c.0))
+      seen_to (Some a) (Some b) ea eb (m ∷ ms) c = inr (inl (is_there a m (rw ea refl) c.0))
 
     choices :
         (j : RecordedInference) (ms : List (Set ℕ)) (E : Set ℕ) → RecordedIn New j → j.maker ≡ Some w.slot → AreChosen (KeptIn w.nodes) E j.from ms → HasMaker j.maker E
-        → IsDue (KeptIn w.nodes) (DueIn Dues) j.to E ⊎ SomeWaits (WaitsIn Items j) j.from ms
+        → IsDue (KeptIn w.nodes) (DueIn Dues) j.to E ⊎ SomeWaits (IsAtHand Items j) j.from ms
     choices j ms E r by chosen maker =
         elim (split j r) [
           | inl o ↦ inl (inl (choice_reached S (KeptIn w.nodes) rest.up_to_date.settled j ms E (rest.up_to_date.are.leads j o) chosen maker))
           | inr n ↦
-              let P : RecordedInference → Type 0 = λ i. AreChosen (KeptIn w.nodes) E i.from ms → HasMaker i.maker E → IsDue (KeptIn w.nodes) (DueIn Dues) i.to E ⊎ SomeWaits (WaitsIn Items i) i.from ms in
+              let P : RecordedInference → Type 0 = λ i. AreChosen (KeptIn w.nodes) E i.from ms → HasMaker i.maker E → IsDue (KeptIn w.nodes) (DueIn Dues) i.to E ⊎ SomeWaits (IsAtHand Items i) i.from ms in
               subst P n.2 (λ (c : AreChosen (KeptIn w.nodes) E (facts n.0.first n.0.second) ms) (m : HasMaker n.0.maker E). seen_to n.0 n.1 E m n.0.first n.0.second refl refl ms c) chosen maker
         ]
 
-    all_begun : Holds slots w.slot w.nodes New Dues Items
+    all_begun : Holds slots w.slot w.nodes New Dues Items []
     all_begun =
-        start_part S (stock slots) w.slot more (decide w.slot) Met (KeptIn w.nodes) Old rest.up_to_date.settled rest.up_to_date.are rest.up_to_date.were_met (DueIn Dues) due_now part works (RecordedIn New) (WaitsIn Items) now_recorded now_made waiting choices
+        let was : IsPropagating (stock slots) w.slot Met (KeptIn w.nodes) (RecordedIn New) (DueIn Dues) (IsAtHand Items) NoArrival =
+        start_part S (stock slots) w.slot more (decide w.slot) Met (KeptIn w.nodes) Old rest.up_to_date.settled rest.up_to_date.are rest.up_to_date.were_met (DueIn Dues) due_now part works (RecordedIn New) (IsAtHand Items) now_recorded now_made waiting choices in
+        whole.reordered (stock slots) w.slot Met (KeptIn w.nodes) (RecordedIn New) (DueIn Dues) (IsAtHand Items) NoArrival was (DueIn Dues) (IsAtHand Items) (HasCome [])
+        (λ t E. ((λ (k : DueIn Dues t E). k), (λ (k : DueIn Dues t E). k))) (λ j g m. ((λ (h : IsAtHand Items j g m). h), (λ (h : IsAtHand Items j g m). h))) none_came
 
-    pub part_begins : (recorded : List Inferred) (dues : List Insertion) (items : List Pending) → recorded ≡ New → dues ≡ w.due.items ++ Dues → items ≡ w.agenda ++ Items → Holds slots w.slot w.nodes recorded dues items
-    part_begins recorded dues items r d i = rw (r, d, i, rest.none_due, rest.nothing_waits) all_begun
+    pub part_begins :
+        (recorded : List Inferred) (dues : List Insertion) (items : List Pending) → recorded ≡ New → dues ≡ w.due.items ++ Dues → items ≡ w.work.items ++ Items
+        → Holds slots w.slot w.nodes recorded dues items w.agenda
+    part_begins recorded dues items r d i = rw (r, d, i, rest.none_due, rest.none_at_hand, rest.nothing_waits) all_begun

@@ -266,6 +266,7 @@ module _ (old new : Update) (slot : ℕ) (gone : HasForgotten slot old new) (onc
         once = once_new;
       };
       none_due = gone.due_same ∙ rest.none_due;
+      none_at_hand = gone.work_same ∙ rest.none_at_hand;
       nothing_waits = gone.agenda_same ∙ rest.nothing_waits;
     }
 

@@ -19,18 +19,19 @@ use Rattle.propagation.proofs.Whole as whole
 use Rattle.label_engine.specs.declared.node.Nodes.{Nodes}
 use Rattle.label_engine.specs.declared.node.Insertion.{Insertion}
 use Rattle.inference_search.specs.declared.inferred.Inferred.{Inferred}
+use Rattle.label_engine.specs.declared.update.Arrival.{Arrival}
 use Rattle.label_engine.specs.declared.update.Pending.{Pending}
 use Rattle.label_engine.specs.Nodes.{facts_of, KeptIn, reaches}
-use Rattle.label_engine.specs.Update.{is_same_target, goes_from, AreNeeded, DueIn, WaitsIn, Holds, ends_in, goes_to, item_at, items_to, items_at, items_for}
+use Rattle.label_engine.specs.Update.{is_same_target, goes_from, AreNeeded, DueIn, IsAtHand, HasCome, Holds, ends_in, goes_to, item_at, items_to, items_at, arrivals_at}
 use Rattle.assumption_slots.specs.Slots.{stock}
 use Rattle.inference_search.specs.Inferences.{facts, inference, RecordedIn}
 use Rattle.inference_search.specs.Found.{AreFound}
 use Rattle.label_engine.proofs.Needed.{needed_are}
 use Rattle.label_engine.proofs.Families.{same_target, target_same, reached_is, is_reached_of, not_reached_is}
 
-module _ (slots : List (Option Assumption)) (slot : ℕ) (labels : Nodes) (recorded : List Inferred) (due : Insertion) (dues : List Insertion) (agenda : List Pending) where
+module _ (slots : List (Option Assumption)) (slot : ℕ) (labels : Nodes) (recorded : List Inferred) (due : Insertion) (dues : List Insertion) (work : List Pending) (agenda : List Arrival) where
   abbrev Before : Type 0
-  Before = Holds slots slot labels recorded (due ∷ dues) agenda
+  Before = Holds slots slot labels recorded (due ∷ dues) work agenda
 
   abbrev Met : List Fact
   Met = facts_of labels.list.items
@@ -46,15 +47,15 @@ module _ (slots : List (Option Assumption)) (slot : ℕ) (labels : Nodes) (recor
   there = (due, inl refl, refl, refl)
 
   -- what is reached already goes
-  pub holds_reached : Before → IsReached (KeptIn labels) due.target (members due.env) → Holds slots slot labels recorded dues agenda
-  holds_reached was r = whole.reached_goes (stock slots) slot (IsIn Met) (KeptIn labels) (RecordedIn recorded) (DueIn (due ∷ dues)) (WaitsIn agenda) was (DueIn dues) due.target (members due.env) rest fewer r
+  pub holds_reached : Before → IsReached (KeptIn labels) due.target (members due.env) → Holds slots slot labels recorded dues work agenda
+  holds_reached was r = whole.reached_goes (stock slots) slot (IsIn Met) (KeptIn labels) (RecordedIn recorded) (DueIn (due ∷ dues)) (IsAtHand work) (HasCome agenda) was (DueIn dues) due.target (members due.env) rest fewer r
 
   -- a fact comes met
   pub holds_met :
       Before → (f : Fact) → (IsIn Met f → ⊥) → (found needed : List Inferred) → AreFound slots Met f found → AreNeeded recorded found needed
-      → IsPropagating (stock slots) slot (IsIn (Met ++ f ∷ [])) (KeptIn labels) (RecordedIn (recorded ++ needed)) (DueIn (due ∷ dues)) (WaitsIn agenda)
+      → IsPropagating (stock slots) slot (IsIn (Met ++ f ∷ [])) (KeptIn labels) (RecordedIn (recorded ++ needed)) (DueIn (due ∷ dues)) (IsAtHand work) (HasCome agenda)
   holds_met was f unmet found needed are are_needed =
-      whole.fact_met (stock slots) slot (IsIn Met) (KeptIn labels) (RecordedIn recorded) (DueIn (due ∷ dues)) (WaitsIn agenda) was f
+      whole.fact_met (stock slots) slot (IsIn Met) (KeptIn labels) (RecordedIn recorded) (DueIn (due ∷ dues)) (IsAtHand work) (HasCome agenda) was f
       unmet
       (IsIn (Met ++ f ∷ [])) (λ g a. IsIn-left Met (f ∷ []) g a)
       (RecordedIn (recorded ++ needed)) more new
@@ -77,97 +78,39 @@ module _ (slots : List (Option Assumption)) (slot : ℕ) (labels : Nodes) (recor
       (was : Before) (not_reached : IsReached (KeptIn labels) due.target (members due.env) → ⊥) (were_met : (f : Fact) → due.target ≡ Some f → IsIn Met f) (after : Nodes)
       (put : IsPut due.target (members due.env) (KeptIn labels) (KeptIn after))
     where
-      uses_it : (i : Inferred) (f : Fact) → IsTrue (goes_from f i) → IsIn (facts i.first i.second) f
-      uses_it i f h = uses_facts i.first i.second f (elim (or_cases _ _ h) [ inl a ↦ inl (same_target _ _ a) | inr b ↦ inr (same_target _ _ b) ])
-        where
-          uses_facts : (a b : Option Fact) (f : Fact) → (a ≡ Some f) ⊎ (b ≡ Some f) → IsIn (facts a b) f
-          uses_facts None None f (inl e) = absurd (cc)
-          uses_facts None None f (inr e) = absurd (cc)
-          uses_facts None (Some b) f (inl e) = absurd (cc)
-          uses_facts None (Some b) f (inr e) = inl (cc)
-          uses_facts (Some a) None f (inl e) = inl (cc)
-          uses_facts (Some a) None f (inr e) = absurd (cc)
-          uses_facts (Some a) (Some b) f (inl e) = inl (cc)
-          uses_facts (Some a) (Some b) f (inr e) = inr (inl (cc))
+      abbrev Arrivals : List Arrival
+      Arrivals = agenda ++ arrivals_at due.target due.env
 
-      used : (a b : Option Fact) (f : Fact) → IsIn (facts a b) f → IsTrue (is_same_target a (Some f) || is_same_target b (Some f))
-      used None None f h = absurd h
-      used None (Some b) f (inl e) = target_same (Some b) (Some f) (ap (λ x. Some x) e)
-      used None (Some b) f (inr h) = absurd h
-      used (Some a) None f (inl e) = or_left _ _ (target_same (Some a) (Some f) (ap (λ x. Some x) e))
-      used (Some a) None f (inr h) = absurd h
-      used (Some a) (Some b) f (inl e) = or_left _ _ (target_same (Some a) (Some f) (ap (λ x. Some x) e))
-      used (Some a) (Some b) f (inr (inl e)) = or_right _ _ (target_same (Some b) (Some f) (ap (λ x. Some x) e))
-      used (Some a) (Some b) f (inr (inr h)) = absurd h
+      earlier : (f : Fact) (m : Set ℕ) → HasCome agenda f m → HasCome Arrivals f m
+      earlier f m c = (c.0, IsIn-left agenda (arrivals_at due.target due.env) c.0 c.1, c.2, c.3)
 
-      item_to : (clash : Bool) (e : Env) (f : Fact) (i : Inferred) → IsIn recorded i → IsTrue (ends_in clash i.to) → IsTrue (goes_from f i) → IsIn (items_to clash f e recorded) (item_at f e i)
-      item_to clash e f i r ends u = map-IsIn (item_at f e) (filter (goes_to clash f) recorded) i (IsIn-kept (goes_to clash f) recorded i r (and_from _ _ ends u))
+      comes : (f : Fact) → due.target ≡ Some f → HasCome Arrivals f (members due.env)
+      comes f e =
+          let a : Arrival = record { fact = f; env = due.env } in
+          let P : Target → Type 0 = λ t. IsIn (arrivals_at t due.env) a in
+          (a, IsIn-right agenda (arrivals_at due.target due.env) a (subst P (sym e) (inl refl)), refl, refl)
 
-      ends_somehow : (t : Target) → IsTrue (ends_in false t) ⊎ IsTrue (ends_in true t)
-      ends_somehow None = inr refl
-      ends_somehow (Some f) = inl refl
+      arrival_of : (t : Target) (f : Fact) (m : Set ℕ) → HasCome (arrivals_at t due.env) f m → (t ≡ Some f) × (m ≡ members due.env)
+      arrival_of None f m c = absurd c.1
+      arrival_of (Some g) f m (a, inl e, at, is) = (ap (λ x. Some x) (ap (λ (x : Arrival). x.fact) e ∙ at), sym is ∙ sym (ap (λ (x : Arrival). members x.env) e))
+      arrival_of (Some g) f m (a, inr bad, at, is) = absurd bad
 
-      item : (t : Target) (e : Env) (j : RecordedInference) (f : Fact) → RecordedIn recorded j → t ≡ Some f → IsIn j.from f → WaitsIn (items_at t e recorded) j f (members e)
-      item None e j f r same i = absurd (cc)
-      item (Some g) e j f r same i =
-          let gf : g ≡ f = cc in
-          let u : IsTrue (goes_from f r.0) = used r.0.first r.0.second f (let P : RecordedInference → Type 0 = λ x. IsIn x.from f in subst P (sym r.2) i) in
-          let there : IsIn (items_at (Some f) e recorded) (item_at f e r.0) =
-          elim (ends_somehow r.0.to) [
-            | inl value ↦ IsIn-left (items_to false f e recorded) (items_to true f e recorded) (item_at f e r.0) (item_to false e f r.0 r.1 value u)
-            | inr clash ↦ IsIn-right (items_to false f e recorded) (items_to true f e recorded) (item_at f e r.0) (item_to true e f r.0 r.1 clash u)
-          ] in
-          let P : Fact → Type 0 = λ x. IsIn (items_at (Some x) e recorded) (item_at f e r.0) in
-          (item_at f e r.0, subst P (sym gf) there, r.2, refl, refl)
-
-      -- an item of either kind is of an inference that goes from the fact
-      from_to : (clash : Bool) (e : Env) (g : Fact) (p : Pending) → IsIn (items_to clash g e recorded) p → (i : Inferred) × IsIn recorded i × IsTrue (goes_from g i) × (item_at g e i ≡ p)
-      from_to clash e g p w =
-          let i : (i : Inferred) × IsIn (filter (goes_to clash g) recorded) i × (item_at g e i ≡ p) = IsIn-map (item_at g e) (filter (goes_to clash g) recorded) p w in
-          let r : IsIn recorded i.0 × IsTrue (goes_to clash g i.0) = IsIn-filter (goes_to clash g) recorded i.0 i.1 in
-          (i.0, r.0, (and_parts _ _ r.1).1, i.2)
-
-      item_of : (t : Target) (e : Env) (j : RecordedInference) (f : Fact) (m : Set ℕ) → WaitsIn (items_at t e recorded) j f m → RecordedIn recorded j × IsIn j.from f × (t ≡ Some f) × (m ≡ members e)
-      item_of None e j f m w = absurd w.1
-      item_of (Some g) e j f m w =
-          let i : (i : Inferred) × IsIn recorded i × IsTrue (goes_from g i) × (item_at g e i ≡ w.0) =
-          elim (IsIn-append (items_to false g e recorded) (items_to true g e recorded) w.0 w.1) [
-            | inl value ↦ from_to false e g w.0 value
-            | inr clash ↦ from_to true e g w.0 clash
-          ] in
-          let at : g ≡ f = ap (λ (x : Pending). x.at) i.3 ∙ w.3 in
-          let same : inference i.0 ≡ j = ap (λ (x : Pending). inference x.inferred) i.3 ∙ w.2 in
-          let P : Fact → Type 0 = λ x. IsIn (facts i.0.first i.0.second) x in
-          let Q : RecordedInference → Type 0 = λ x. IsIn x.from f in
-          ((i.0, i.1, same), subst Q same (subst P at (uses_it i.0 g i.2)), ap (λ x. Some x) at, sym w.4 ∙ sym (ap (λ (x : Pending). members x.env) i.3))
-
-      items : (j : RecordedInference) (f : Fact) (m : Set ℕ) → WaitsIn (agenda ++ items_for due recorded) j f m → WaitsIn agenda j f m ⊎ (RecordedIn recorded j × IsIn j.from f × (due.target ≡ Some f) × (m ≡ members due.env))
-      items j f m w =
-          elim (IsIn-append agenda (items_for due recorded) w.0 w.1) [
-            | inl o ↦ inl (w.0, o, w.2, w.3, w.4)
-            | inr n ↦ inr (item_of due.target due.env j f m (w.0, n, w.2, w.3, w.4))
+      arrival : (f : Fact) (m : Set ℕ) → HasCome Arrivals f m → HasCome agenda f m ⊎ ((due.target ≡ Some f) × (m ≡ members due.env))
+      arrival f m c =
+          elim (IsIn-append agenda (arrivals_at due.target due.env) c.0 c.1) [
+            | inl o ↦ inl (c.0, o, c.2, c.3)
+            | inr n ↦ inr (arrival_of due.target f m (c.0, n, c.2, c.3))
           ]
 
-      item_there : (j : RecordedInference) (f : Fact) → RecordedIn recorded j → due.target ≡ Some f → IsIn j.from f → WaitsIn (agenda ++ items_for due recorded) j f (members due.env)
-      item_there j f r e i = let w : WaitsIn (items_for due recorded) j f (members due.env) = item due.target due.env j f r e i in (w.0, IsIn-right agenda (items_for due recorded) w.0 w.1, w.2, w.3, w.4)
-
-      met_at : (f : Fact) → IsIn Met f ⊎ (due.target ≡ Some f) → IsIn Met f
-      met_at f (inl a) = a
-      met_at f (inr e) = were_met f e
-
-      pub holds_put : IsPropagating (stock slots) slot (IsIn Met) (KeptIn after) (RecordedIn recorded) (DueIn dues) (WaitsIn (agenda ++ items_for due recorded))
+      pub holds_put : IsPropagating (stock slots) slot (IsIn Met) (KeptIn after) (RecordedIn recorded) (DueIn dues) (IsAtHand work) (HasCome Arrivals)
       holds_put =
-          whole.added (stock slots) slot (IsIn Met) (KeptIn labels) (RecordedIn recorded) (DueIn (due ∷ dues)) (WaitsIn agenda) was (DueIn dues) due.target (members due.env) rest fewer
-          (KeptIn after) put not_reached (was.due.environments due.target (members due.env) there) (was.due.sound due.target (members due.env) there)
-          (IsIn Met) (RecordedIn recorded) (WaitsIn (agenda ++ items_for due recorded)) was.are met_at (λ j r. inl r) (λ j r. r)
-          (λ j f m w. (w.0, IsIn-left agenda (items_for due recorded) w.0 w.1, w.2, w.3, w.4)) item_there items
+          whole.added (stock slots) slot (IsIn Met) (KeptIn labels) (RecordedIn recorded) (DueIn (due ∷ dues)) (IsAtHand work) (HasCome agenda) was (DueIn dues) due.target (members due.env) rest fewer
+          (KeptIn after) put not_reached (was.due.environments due.target (members due.env) there) (was.due.sound due.target (members due.env) there) were_met (HasCome Arrivals) earlier comes arrival
 
       pub agrees_put : AgreeWithout slot (KeptIn labels) (KeptIn after)
       agrees_put =
-          whole.agrees (stock slots) slot (IsIn Met) (KeptIn labels) (RecordedIn recorded) (DueIn (due ∷ dues)) (WaitsIn agenda) was (DueIn dues) due.target (members due.env) rest fewer
-          (KeptIn after) put not_reached (was.due.environments due.target (members due.env) there) (was.due.sound due.target (members due.env) there)
-          (IsIn Met) (RecordedIn recorded) (WaitsIn (agenda ++ items_for due recorded)) was.are met_at (λ j r. inl r) (λ j r. r)
-          (λ j f m w. (w.0, IsIn-left agenda (items_for due recorded) w.0 w.1, w.2, w.3, w.4)) item_there items
+          whole.agrees (stock slots) slot (IsIn Met) (KeptIn labels) (RecordedIn recorded) (DueIn (due ∷ dues)) (IsAtHand work) (HasCome agenda) was (DueIn dues) due.target (members due.env) rest fewer
+          (KeptIn after) put not_reached (was.due.environments due.target (members due.env) there) (was.due.sound due.target (members due.env) there) were_met (HasCome Arrivals) earlier comes arrival
 
       stays_reached : (t : Target) (E : Set ℕ) → IsTrue (reaches labels t E) → IsTrue (reaches after t E)
       stays_reached t E h = is_reached_of after t E (reached_stays due.target (members due.env) (KeptIn labels) (KeptIn after) put t E (reached_is labels t E h))
@@ -176,6 +119,89 @@ module _ (slots : List (Option Assumption)) (slot : ℕ) (labels : Nodes) (recor
       fewer_uncovered fits =
           uncovered_less (reaches labels) (reaches after) stays_reached due.target (members due.env) fits (slots_are_below due.env) (not_reached_is labels due.target (members due.env) not_reached)
           (is_reached_of after due.target (members due.env) (reached_there due.target (members due.env) (KeptIn labels) (KeptIn after) put (members due.env) (λ k h. h)))
+
+-- an environment that came is taken: each recorded inference from its fact is at hand with it
+module _ (recorded : List Inferred) (f : Fact) (e : Env) where
+  uses_it : (i : Inferred) → IsTrue (goes_from f i) → IsIn (facts i.first i.second) f
+  uses_it i h = uses_facts i.first i.second (elim (or_cases _ _ h) [ inl a ↦ inl (same_target _ _ a) | inr b ↦ inr (same_target _ _ b) ])
+    where
+      uses_facts : (a b : Option Fact) → (a ≡ Some f) ⊎ (b ≡ Some f) → IsIn (facts a b) f
+      uses_facts None None (inl e) = absurd (cc)
+      uses_facts None None (inr e) = absurd (cc)
+      uses_facts None (Some b) (inl e) = absurd (cc)
+      uses_facts None (Some b) (inr e) = inl (cc)
+      uses_facts (Some a) None (inl e) = inl (cc)
+      uses_facts (Some a) None (inr e) = absurd (cc)
+      uses_facts (Some a) (Some b) (inl e) = inl (cc)
+      uses_facts (Some a) (Some b) (inr e) = inr (inl (cc))
+
+  used : (a b : Option Fact) → IsIn (facts a b) f → IsTrue (is_same_target a (Some f) || is_same_target b (Some f))
+  used None None h = absurd h
+  used None (Some b) (inl e) = target_same (Some b) (Some f) (ap (λ x. Some x) e)
+  used None (Some b) (inr h) = absurd h
+  used (Some a) None (inl e) = or_left _ _ (target_same (Some a) (Some f) (ap (λ x. Some x) e))
+  used (Some a) None (inr h) = absurd h
+  used (Some a) (Some b) (inl e) = or_left _ _ (target_same (Some a) (Some f) (ap (λ x. Some x) e))
+  used (Some a) (Some b) (inr (inl e)) = or_right _ _ (target_same (Some b) (Some f) (ap (λ x. Some x) e))
+  used (Some a) (Some b) (inr (inr h)) = absurd h
+
+  item_to : (clash : Bool) (i : Inferred) → IsIn recorded i → IsTrue (ends_in clash i.to) → IsTrue (goes_from f i) → IsIn (items_to clash f e recorded) (item_at f e i)
+  item_to clash i r ends u = map-IsIn (item_at f e) (filter (goes_to clash f) recorded) i (IsIn-kept (goes_to clash f) recorded i r (and_from _ _ ends u))
+
+  ends_somehow : (t : Target) → IsTrue (ends_in false t) ⊎ IsTrue (ends_in true t)
+  ends_somehow None = inr refl
+  ends_somehow (Some g) = inl refl
+
+  item : (j : RecordedInference) → RecordedIn recorded j → IsIn j.from f → IsAtHand (items_at f e recorded) j f (members e)
+  item j r i =
+      let u : IsTrue (goes_from f r.0) = used r.0.first r.0.second (let P : RecordedInference → Type 0 = λ x. IsIn x.from f in subst P (sym r.2) i) in
+      let there : IsIn (items_at f e recorded) (item_at f e r.0) =
+      elim (ends_somehow r.0.to) [
+        | inl value ↦ IsIn-left (items_to false f e recorded) (items_to true f e recorded) (item_at f e r.0) (item_to false r.0 r.1 value u)
+        | inr clash ↦ IsIn-right (items_to false f e recorded) (items_to true f e recorded) (item_at f e r.0) (item_to true r.0 r.1 clash u)
+      ] in
+      (item_at f e r.0, there, r.2, refl, refl)
+
+  -- an item of either kind is of an inference that goes from the fact
+  from_to : (clash : Bool) (p : Pending) → IsIn (items_to clash f e recorded) p → (i : Inferred) × IsIn recorded i × IsTrue (goes_from f i) × (item_at f e i ≡ p)
+  from_to clash p w =
+      let i : (i : Inferred) × IsIn (filter (goes_to clash f) recorded) i × (item_at f e i ≡ p) = IsIn-map (item_at f e) (filter (goes_to clash f) recorded) p w in
+      let r : IsIn recorded i.0 × IsTrue (goes_to clash f i.0) = IsIn-filter (goes_to clash f) recorded i.0 i.1 in
+      (i.0, r.0, (and_parts _ _ r.1).1, i.2)
+
+  item_of : (j : RecordedInference) (g : Fact) (m : Set ℕ) → IsAtHand (items_at f e recorded) j g m → RecordedIn recorded j × IsIn j.from f × (g ≡ f) × (m ≡ members e)
+  item_of j g m w =
+      let i : (i : Inferred) × IsIn recorded i × IsTrue (goes_from f i) × (item_at f e i ≡ w.0) =
+      elim (IsIn-append (items_to false f e recorded) (items_to true f e recorded) w.0 w.1) [
+        | inl value ↦ from_to false w.0 value
+        | inr clash ↦ from_to true w.0 clash
+      ] in
+      let at : f ≡ g = ap (λ (x : Pending). x.at) i.3 ∙ w.3 in
+      let same : inference i.0 ≡ j = ap (λ (x : Pending). inference x.inferred) i.3 ∙ w.2 in
+      let Q : RecordedInference → Type 0 = λ x. IsIn x.from f in
+      ((i.0, i.1, same), subst Q same (uses_it i.0 i.2), sym at, sym w.4 ∙ sym (ap (λ (x : Pending). members x.env) i.3))
+
+  module _ (slots : List (Option Assumption)) (slot : ℕ) (labels : Nodes) (dues : List Insertion) (work : List Pending) (agenda : List Arrival) where
+    abbrev Taken : Arrival
+    Taken = record { fact = f; env = e }
+
+    left : (g : Fact) (m : Set ℕ) → HasCome (Taken ∷ agenda) g m → HasCome agenda g m ⊎ ((g ≡ f) × (m ≡ members e))
+    left g m (a, inl same, at, is) = inr (sym at ∙ sym (ap (λ (x : Arrival). x.fact) same), sym is ∙ sym (ap (λ (x : Arrival). members x.env) same))
+    left g m (a, inr i, at, is) = inl (a, i, at, is)
+
+    items : (j : RecordedInference) (g : Fact) (m : Set ℕ) → IsAtHand (work ++ items_at f e recorded) j g m → IsAtHand work j g m ⊎ (RecordedIn recorded j × IsIn j.from f × (g ≡ f) × (m ≡ members e))
+    items j g m w =
+        elim (IsIn-append work (items_at f e recorded) w.0 w.1) [
+          | inl o ↦ inl (w.0, o, w.2, w.3, w.4)
+          | inr n ↦ inr (item_of j g m (w.0, n, w.2, w.3, w.4))
+        ]
+
+    pub holds_brought : Holds slots slot labels recorded dues work (Taken ∷ agenda) → Holds slots slot labels recorded dues (work ++ items_at f e recorded) agenda
+    holds_brought was =
+        whole.brought (stock slots) slot (IsIn (facts_of labels.list.items)) (KeptIn labels) (RecordedIn recorded) (DueIn dues) (IsAtHand work) (HasCome (Taken ∷ agenda)) was
+        (IsAtHand (work ++ items_at f e recorded)) (HasCome agenda) f (members e) (Taken, inl refl, refl, refl) left
+        (λ g m c. (c.0, inr c.1, c.2, c.3)) (λ j g m w. (w.0, IsIn-left work (items_at f e recorded) w.0 w.1, w.2, w.3, w.4))
+        (λ j r i. let w : IsAtHand (items_at f e recorded) j f (members e) = item j r i in (w.0, IsIn-right work (items_at f e recorded) w.0 w.1, w.2, w.3, w.4)) items
 
 -- the load falls where fewer pairs are left, whatever waits
 pub load_falls : (new old waits before : ℕ) → new < old → waits < 2 ^ 64 → new * 2 ^ 64 + waits < old * 2 ^ 64 + before

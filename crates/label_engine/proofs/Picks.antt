@@ -15,9 +15,10 @@ use Rattle.propagation.proofs.Whole as whole
 use Rattle.label_engine.specs.declared.node.Nodes.{Nodes}
 use Rattle.label_engine.specs.declared.node.Insertion.{Insertion}
 use Rattle.inference_search.specs.declared.inferred.Inferred.{Inferred}
+use Rattle.label_engine.specs.declared.update.Arrival.{Arrival}
 use Rattle.label_engine.specs.declared.update.Pending.{Pending}
 use Rattle.label_engine.specs.Nodes.{facts_of, KeptIn}
-use Rattle.label_engine.specs.Update.{is_same_target, other_fact, made_by, DueIn, WaitsIn, Holds, union_of, IsUnion, HasUnions}
+use Rattle.label_engine.specs.Update.{is_same_target, other_fact, made_by, DueIn, IsAtHand, HasCome, Holds, union_of, IsUnion, HasUnions}
 use Rattle.assumption_slots.specs.Slots.{stock}
 use Rattle.assumption_slots.proofs.Remembered.{some_within}
 use Rattle.environment_sets.specs.declared.environment.TheConstants.{SLOTS}
@@ -87,32 +88,32 @@ module _ (item : Pending) (A F : Set ℕ) (is : F ≡ union_of item A) where
   in_union_other : A ⊆ F
   in_union_other n h = joined n ∙ or_right ((members item.env ∪ made_by item.inferred.maker) n) (A n) h
 
-module _ (slots : List (Option Assumption)) (slot : ℕ) (labels : Nodes) (recorded : List Inferred) (dues dues' : List Insertion) (agenda : List Pending) (item : Pending)
-    (was : Holds slots slot labels recorded dues (item ∷ agenda)) (u : HasUnions item labels dues dues') where
+module _ (slots : List (Option Assumption)) (slot : ℕ) (labels : Nodes) (recorded : List Inferred) (dues dues' : List Insertion) (work : List Pending) (agenda : List Arrival) (item : Pending)
+    (was : Holds slots slot labels recorded dues (item ∷ work) agenda) (u : HasUnions item labels dues dues') where
   abbrev S : Stock ℕ
   S = stock slots
 
   abbrev It : RecordedInference
   It = inference item.inferred
 
-  it_waits : WaitsIn (item ∷ agenda) It item.at (members item.env)
-  it_waits = (item, inl refl, refl, refl, refl)
+  it_is : IsAtHand (item ∷ work) It item.at (members item.env)
+  it_is = (item, inl refl, refl, refl, refl)
 
-  left_waits : (i : RecordedInference) (g : Fact) (m : Set ℕ) → WaitsIn (item ∷ agenda) i g m → WaitsIn agenda i g m ⊎ ((i ≡ It) × (g ≡ item.at) × (m ≡ members item.env))
-  left_waits i g m (x, inl e, a, b, c) = inr (sym a ∙ sym (ap (λ (y : Pending). inference y.inferred) e), sym b ∙ sym (ap (λ (y : Pending). y.at) e), sym c ∙ sym (ap (λ (y : Pending). members y.env) e))
-  left_waits i g m (x, inr l, a, b, c) = inl (x, l, a, b, c)
+  left : (i : RecordedInference) (g : Fact) (m : Set ℕ) → IsAtHand (item ∷ work) i g m → IsAtHand work i g m ⊎ ((i ≡ It) × (g ≡ item.at) × (m ≡ members item.env))
+  left i g m (x, inl e, a, b, c) = inr (sym a ∙ sym (ap (λ (y : Pending). inference y.inferred) e), sym b ∙ sym (ap (λ (y : Pending). y.at) e), sym c ∙ sym (ap (λ (y : Pending). members y.env) e))
+  left i g m (x, inr l, a, b, c) = inl (x, l, a, b, c)
 
   leads : Leads S It.from It.maker It.to
-  leads = was.are.leads It (was.waiting.inference It item.at (members item.env) it_waits)
+  leads = was.are.leads It (was.waiting.inference It item.at (members item.env) it_is)
 
   at_from : IsIn It.from item.at
-  at_from = was.waiting.antecedent It item.at (members item.env) it_waits
+  at_from = was.waiting.antecedent It item.at (members item.env) it_is
 
   -- a union with what has the other_fact is sound
   union_environment : (A : Set ℕ) (d : Insertion) → IsUnion item A d → IsEnvironment S A → IsEnvironment S (members d.env)
   union_environment A d is env n h =
       elim (of_union item A (members d.env) is.joined n h) [
-        | inl a ↦ was.waiting.environment It item.at (members item.env) it_waits n a
+        | inl a ↦ was.waiting.environment It item.at (members item.env) it_is n a
         | inr r ↦ elim r [ inl b ↦ env n b | inr m ↦ maker_some S It.from It.maker It.to leads n m ]
       ]
 
@@ -120,7 +121,7 @@ module _ (slots : List (Option Assumption)) (slot : ℕ) (labels : Nodes) (recor
   union_has A d is has =
       let P : Target → Type 0 = λ t. HasAt S t (members d.env) in
       subst P (sym is.target) (leads_on S (members d.env) It.from It.maker It.to leads (in_union_maker item A (members d.env) is.joined) (λ f i. elim (from_at_or_other item.inferred.first item.inferred.second item.inferred refl refl item.at at_from f i) [
-        | inl e ↦ let Q : Fact → Type 0 = λ g. Has S g (members d.env) in subst Q (sym e) (has_more S (members d.env) (Some item.at) (members item.env) (in_union_at item A (members d.env) is.joined) (was.waiting.sound It item.at (members item.env) it_waits))
+        | inl e ↦ let Q : Fact → Type 0 = λ g. Has S g (members d.env) in subst Q (sym e) (has_more S (members d.env) (Some item.at) (members item.env) (in_union_at item A (members d.env) is.joined) (was.waiting.sound It item.at (members item.env) it_is))
         | inr e ↦ has_more S (members d.env) (Some f) A (in_union_other item A (members d.env) is.joined) (has f e)
       ]))
 
@@ -210,13 +211,13 @@ module _ (slots : List (Option Assumption)) (slot : ℕ) (labels : Nodes) (recor
             ]
       ] refl
 
-  pub holds_picked : Holds slots slot labels recorded dues' agenda
+  pub holds_picked : Holds slots slot labels recorded dues' work agenda
   holds_picked =
-      whole.picked S slot (IsIn (facts_of labels.list.items)) (KeptIn labels) (RecordedIn recorded) (DueIn dues) (WaitsIn (item ∷ agenda)) was (DueIn dues') (WaitsIn agenda) It item.at (members item.env)
-      left_waits (λ i g m w. (w.0, inr w.1, w.2, w.3, w.4)) (λ t E k. (k.0, u.stays k.0 k.1, k.2, k.3)) (record { environments = due_environments; sound = due_has })
+      whole.picked S slot (IsIn (facts_of labels.list.items)) (KeptIn labels) (RecordedIn recorded) (DueIn dues) (IsAtHand (item ∷ work)) (HasCome agenda) was (DueIn dues') (IsAtHand work) It item.at (members item.env)
+      left (λ i g m w. (w.0, inr w.1, w.2, w.3, w.4)) (λ t E k. (k.0, u.stays k.0 k.1, k.2, k.3)) (record { environments = due_environments; sound = due_has })
       (unions item.inferred.first item.inferred.second refl refl)
 
--- the item's only fact is the one at which it waits
+-- the item's only fact is the one at which it is at hand
 pub alone : (item : Pending) (labels : Nodes) (old : List Insertion) (d : Insertion) → other_fact item.inferred item.at ≡ None → IsUnion item no_elements d → HasUnions item labels old (old ++ d ∷ [])
 alone item labels old d p is = record {
   stays = λ x i. IsIn-left old (d ∷ []) x i;
@@ -231,11 +232,11 @@ alone item labels old d p is = record {
   ];
 }
 
--- the maker of what waits is below the bound
+-- the maker of what is at hand is below the bound
 pub maker_fits :
-    (slots : List (Option Assumption)) (slot : ℕ) (nodes : Nodes) (recorded : List Inferred) (dues : List Insertion) (agenda : List Pending) (item : Pending)
-    → Holds slots slot nodes recorded dues (item ∷ agenda) → length slots ≡ SLOTS → IfSome item.inferred.maker (λ k. k < SLOTS)
-maker_fits slots slot nodes recorded dues agenda item was wide =
+    (slots : List (Option Assumption)) (slot : ℕ) (nodes : Nodes) (recorded : List Inferred) (dues : List Insertion) (work : List Pending) (agenda : List Arrival) (item : Pending)
+    → Holds slots slot nodes recorded dues (item ∷ work) agenda → length slots ≡ SLOTS → IfSome item.inferred.maker (λ k. k < SLOTS)
+maker_fits slots slot nodes recorded dues work agenda item was wide =
     let It : RecordedInference = inference item.inferred in
     let leads : Leads (stock slots) It.from It.maker It.to = was.are.leads It (was.waiting.inference It item.at (members item.env) (item, inl refl, refl, refl, refl)) in
     elim item.inferred.maker as (λ m. item.inferred.maker ≡ m → IfSome m (λ k. k < SLOTS)) [

@@ -17,10 +17,11 @@ use Rattle.label_engine.specs.declared.node.Node.{Node}
 use Rattle.label_engine.specs.declared.node.Nodes.{Nodes}
 use Rattle.label_engine.specs.declared.node.Insertion.{Insertion}
 use Rattle.inference_search.specs.declared.inferred.Inferred.{Inferred}
+use Rattle.label_engine.specs.declared.update.Arrival.{Arrival}
 use Rattle.label_engine.specs.declared.update.Pending.{Pending}
 use Rattle.label_engine.specs.declared.update.Update.{Update}
 use Rattle.label_engine.specs.Nodes.{facts_of, label_in, KeptIn, reaches}
-use Rattle.label_engine.specs.Update.{Survives, other_fact, DueIn, WaitsIn, Propagates, Holds, DueAlso, HasUnions, HasUnionsWith, HasMet, AreKeptAlike, IsPutThere, IsReady, IsAtRest, CarriesOn, AgreesWith}
+use Rattle.label_engine.specs.Update.{Survives, other_fact, DueIn, IsAtHand, HasCome, Propagates, Holds, DueAlso, HasUnions, HasUnionsWith, HasMet, AreKeptAlike, IsPutThere, IsReady, IsAtRest, CarriesOn, AgreesWith}
 use Rattle.assumption_slots.specs.Slots.{stock}
 use Rattle.inference_search.specs.Inferences.{RecordedIn}
 use Rattle.label_engine.proofs.Families.{same_family, same_test, label_in-met}
@@ -113,6 +114,13 @@ survives_then a b c first agrees slot recorded met = record {
   once = λ (d : AreDistinct (facts_of a.nodes.list.items)). subst AreDistinct (sym met) (first.once d);
 }
 
+-- the last comes first
+last_first : {X : Type 0} (old xs : List X) (x : X) → old ≡ xs ++ x ∷ [] → (k : X) → IsIn old k ↔ IsIn (x ∷ xs) k
+last_first {X} old xs x e k = (
+  (λ (i : IsIn old k). elim (IsIn-append xs (x ∷ []) k (let P : List X → Type 0 = λ l. IsIn l k in subst P e i)) [ inl a ↦ inr a | inr b ↦ elim b [ inl y ↦ inl y | inr bad ↦ absurd bad ] ]),
+  (λ (i : IsIn (x ∷ xs) k). let P : List X → Type 0 = λ l. IsIn l k in subst P (sym e) (elim i [ inl y ↦ IsIn-right xs (x ∷ []) k (inl y) | inr a ↦ IsIn-left xs (x ∷ []) k a ])),
+)
+
 module _ (slots : List (Option Assumption)) where
   pub carries_same : (w : Update) → Propagates slots w → CarriesOn slots w w
   carries_same w was = record {
@@ -134,12 +142,13 @@ module _ (slots : List (Option Assumption)) where
     pub ready_now_met : (f : Fact) (old new : Update) → DueAlso slots due old → due.target ≡ Some f → (IsIn (facts_of old.nodes.list.items) f → ⊥) → AreKeptAlike old new → HasMet slots f old new → IsReady slots due old new
     ready_now_met f old new was at unmet same e = record {
       due_also =
-          let P : Family → Type 0 = λ K. IsPropagating (stock slots) new.slot (IsIn (facts_of new.nodes.list.items)) K (RecordedIn new.recorded) (DueIn (due ∷ new.due.items)) (WaitsIn new.agenda) in
-          subst P (sym (same_family old.nodes new.nodes same.labels same.nogoods)) (rw (e.slot, e.met, e.recorded, e.due, e.agenda) (holds_met slots old.slot old.nodes old.recorded due old.due.items old.agenda was f unmet e.found e.needed e.are_found e.are_needed));
+          let P : Family → Type 0 = λ K. IsPropagating (stock slots) new.slot (IsIn (facts_of new.nodes.list.items)) K (RecordedIn new.recorded) (DueIn (due ∷ new.due.items)) (IsAtHand new.work.items) (HasCome new.agenda) in
+          subst P (sym (same_family old.nodes new.nodes same.labels same.nogoods)) (rw (e.slot, e.met, e.recorded, e.due, e.work, e.agenda) (holds_met slots old.slot old.nodes old.recorded due old.due.items old.work.items old.agenda was f unmet e.found e.needed e.are_found e.are_needed));
       were_met = λ g same_target. rw e.met (let both : Some f ≡ Some g = sym at ∙ same_target in let gf : f ≡ g = cc in subst (IsIn (facts_of old.nodes.list.items ++ f ∷ [])) gf (IsIn-right (facts_of old.nodes.list.items) (f ∷ []) f (inl refl)));
       labels_same = same.labels;
       nogoods_same = same.nogoods;
       due_same = e.due;
+      work_same = e.work;
       agenda_same = e.agenda;
       same_slot = e.slot;
     }
@@ -151,12 +160,13 @@ module _ (slots : List (Option Assumption)) where
       labels_same = λ f. refl;
       nogoods_same = refl;
       due_same = refl;
+      work_same = refl;
       agenda_same = refl;
       same_slot = refl;
     }
 
     pub carries_reached : (old : Update) → DueAlso slots due old → IsReached (KeptIn old.nodes) due.target (members due.env) → CarriesOn slots old old
-    carries_reached old was r = carries_same old (holds_reached slots old.slot old.nodes old.recorded due old.due.items old.agenda was r)
+    carries_reached old was r = carries_same old (holds_reached slots old.slot old.nodes old.recorded due old.due.items old.work.items old.agenda was r)
 
     module _ (old mid new : Update) (ready : IsReady slots due old mid) (out : IsReached (KeptIn old.nodes) due.target (members due.env) → ⊥) where
       pub out_mid : IsReached (KeptIn mid.nodes) due.target (members due.env) → ⊥
@@ -164,15 +174,15 @@ module _ (slots : List (Option Assumption)) where
 
       module _ (put : IsPutThere due mid new) where
         pub agrees_put_there : AgreesWith mid new
-        agrees_put_there = agrees_put slots mid.slot mid.nodes mid.recorded due mid.due.items mid.agenda ready.due_also out_mid ready.were_met new.nodes put.put
+        agrees_put_there = agrees_put slots mid.slot mid.nodes mid.recorded due mid.due.items mid.work.items mid.agenda ready.due_also out_mid ready.were_met new.nodes put.put
 
         pub carries_put : TargetFits due.target → length new.agenda < 2 ^ 64 → CarriesOn slots old new
         carries_put fits few = record {
-          propagates = rw (put.slot, put.met, put.recorded, put.due_same, put.agenda) (holds_put slots mid.slot mid.nodes mid.recorded due mid.due.items mid.agenda ready.due_also out_mid ready.were_met new.nodes put.put);
+          propagates = rw (put.slot, put.met, put.recorded, put.due_same, put.work_same, put.agenda) (holds_put slots mid.slot mid.nodes mid.recorded due mid.due.items mid.work.items mid.agenda ready.due_also out_mid ready.were_met new.nodes put.put);
           agrees = agrees_on old mid new (agrees_same old mid (record { labels = ready.labels_same; nogoods = ready.nogoods_same })) ready.same_slot agrees_put_there;
           same_slot = put.slot ∙ ready.same_slot;
           no_more =
-              let less : uncovered (reaches new.nodes) < uncovered (reaches mid.nodes) = fewer_uncovered slots mid.slot mid.nodes mid.recorded due mid.due.items mid.agenda ready.due_also out_mid ready.were_met new.nodes put.put fits in
+              let less : uncovered (reaches new.nodes) < uncovered (reaches mid.nodes) = fewer_uncovered slots mid.slot mid.nodes mid.recorded due mid.due.items mid.work.items mid.agenda ready.due_also out_mid ready.were_met new.nodes put.put fits in
               let less_old : uncovered (reaches new.nodes) < uncovered (reaches old.nodes) = (let P : (Target → Set ℕ → Bool) → Type 0 = λ r. uncovered (reaches new.nodes) < uncovered r in subst P (same_test old.nodes mid.nodes ready.labels_same ready.nogoods_same) less) in
               omega (arith, load_falls (uncovered (reaches new.nodes)) (uncovered (reaches old.nodes)) (length new.agenda) (length old.agenda) less_old few);
         }
@@ -181,36 +191,46 @@ module _ (slots : List (Option Assumption)) where
     same_dues : (xs ys : List Insertion) → ((d : Insertion) → IsIn xs d ↔ IsIn ys d) → (t : Target) (E : Set ℕ) → DueIn xs t E ↔ DueIn ys t E
     same_dues xs ys same t E = ((λ (d : DueIn xs t E). (d.0, (same d.0).0 d.1, d.2, d.3)), (λ (d : DueIn ys t E). (d.0, (same d.0).1 d.1, d.2, d.3)))
 
-    same_items : (xs ys : List Pending) → ((i : Pending) → IsIn xs i ↔ IsIn ys i) → (j : RecordedInference) (f : Fact) (m : Set ℕ) → WaitsIn xs j f m ↔ WaitsIn ys j f m
-    same_items xs ys same j f m = ((λ (w : WaitsIn xs j f m). (w.0, (same w.0).0 w.1, w.2, w.3, w.4)), (λ (w : WaitsIn ys j f m). (w.0, (same w.0).1 w.1, w.2, w.3, w.4)))
+    same_items : (xs ys : List Pending) → ((i : Pending) → IsIn xs i ↔ IsIn ys i) → (j : RecordedInference) (f : Fact) (m : Set ℕ) → IsAtHand xs j f m ↔ IsAtHand ys j f m
+    same_items xs ys same j f m = ((λ (w : IsAtHand xs j f m). (w.0, (same w.0).0 w.1, w.2, w.3, w.4)), (λ (w : IsAtHand ys j f m). (w.0, (same w.0).1 w.1, w.2, w.3, w.4)))
+
+    same_arrivals : (xs ys : List Arrival) → ((a : Arrival) → IsIn xs a ↔ IsIn ys a) → (f : Fact) (m : Set ℕ) → HasCome xs f m ↔ HasCome ys f m
+    same_arrivals xs ys same f m = ((λ (c : HasCome xs f m). (c.0, (same c.0).0 c.1, c.2, c.3)), (λ (c : HasCome ys f m). (c.0, (same c.0).1 c.1, c.2, c.3)))
 
     same : {X : Type 0} (xs : List X) (x : X) → IsIn xs x ↔ IsIn xs x
     same xs x = ((λ (i : IsIn xs x). i), (λ (i : IsIn xs x). i))
 
+    reordered :
+        (dues dues' : List Insertion) (work work' : List Pending) (agenda agenda' : List Arrival) → ((d : Insertion) → IsIn dues d ↔ IsIn dues' d) → ((i : Pending) → IsIn work i ↔ IsIn work' i)
+        → ((a : Arrival) → IsIn agenda a ↔ IsIn agenda' a) → Holds slots slot labels recorded dues work agenda → Holds slots slot labels recorded dues' work' agenda'
+    reordered dues dues' work work' agenda agenda' d w a was =
+        whole.reordered (stock slots) slot (IsIn (facts_of labels.list.items)) (KeptIn labels) (RecordedIn recorded) (DueIn dues) (IsAtHand work) (HasCome agenda) was (DueIn dues') (IsAtHand work') (HasCome agenda')
+        (same_dues dues dues' d) (same_items work work' w) (same_arrivals agenda agenda' a)
+
     -- the last that is due is taken
-    pub holds_popped : (old dues : List Insertion) (due : Insertion) (agenda : List Pending) → old ≡ dues ++ due ∷ [] → Holds slots slot labels recorded old agenda → Holds slots slot labels recorded (due ∷ dues) agenda
-    holds_popped old dues due agenda e was =
-        whole.reordered (stock slots) slot (IsIn (facts_of labels.list.items)) (KeptIn labels) (RecordedIn recorded) (DueIn old) (WaitsIn agenda) was (DueIn (due ∷ dues)) (WaitsIn agenda)
-        (same_dues old (due ∷ dues) moved) (same_items agenda agenda (same agenda))
-      where
-        moved : (k : Insertion) → IsIn old k ↔ IsIn (due ∷ dues) k
-        moved k = (
-          (λ (i : IsIn old k). elim (IsIn-append dues (due ∷ []) k (let P : List Insertion → Type 0 = λ l. IsIn l k in subst P e i)) [ inl a ↦ inr a | inr b ↦ elim b [ inl x ↦ inl x | inr bad ↦ absurd bad ] ]),
-          (λ (i : IsIn (due ∷ dues) k). let P : List Insertion → Type 0 = λ l. IsIn l k in subst P (sym e) (elim i [ inl x ↦ IsIn-right dues (due ∷ []) k (inl x) | inr a ↦ IsIn-left dues (due ∷ []) k a ])),
-        )
+    pub holds_popped :
+        (old dues : List Insertion) (due : Insertion) (work : List Pending) (agenda : List Arrival) → old ≡ dues ++ due ∷ []
+        → Holds slots slot labels recorded old work agenda → Holds slots slot labels recorded (due ∷ dues) work agenda
+    holds_popped old dues due work agenda e = reordered old (due ∷ dues) work work agenda agenda (last_first old dues due e) (same work) (same agenda)
 
-    -- any item is taken
-    pub holds_taken : (dues : List Insertion) (old rest : List Pending) (item : Pending) → ((k : Pending) → IsIn old k ↔ IsIn (item ∷ rest) k) → Holds slots slot labels recorded dues old → Holds slots slot labels recorded dues (item ∷ rest)
-    holds_taken dues old rest item moved was =
-        whole.reordered (stock slots) slot (IsIn (facts_of labels.list.items)) (KeptIn labels) (RecordedIn recorded) (DueIn dues) (WaitsIn old) was (DueIn dues) (WaitsIn (item ∷ rest))
-        (same_dues dues dues (same dues)) (same_items old (item ∷ rest) moved)
+    -- the last that is at hand is taken
+    pub work_popped :
+        (dues : List Insertion) (old work : List Pending) (item : Pending) (agenda : List Arrival) → old ≡ work ++ item ∷ []
+        → Holds slots slot labels recorded dues old agenda → Holds slots slot labels recorded dues (item ∷ work) agenda
+    work_popped dues old work item agenda e = reordered dues dues old (item ∷ work) agenda agenda (same dues) (last_first old work item e) (same agenda)
 
-    -- nothing is due and nothing waits
-    pub holds_ended : Holds slots slot labels recorded [] [] → IsSettled (stock slots) (λ f. KeptIn labels (Some f)) (KeptIn labels None)
-    holds_ended was = whole.ended (stock slots) slot (IsIn (facts_of labels.list.items)) (KeptIn labels) (RecordedIn recorded) (DueIn []) (WaitsIn []) was (λ t E k. k.1) (λ i g m w. w.1)
+    -- any of those that came is taken
+    pub holds_taken :
+        (dues : List Insertion) (work : List Pending) (old rest : List Arrival) (arrival : Arrival) → ((k : Arrival) → IsIn old k ↔ IsIn (arrival ∷ rest) k)
+        → Holds slots slot labels recorded dues work old → Holds slots slot labels recorded dues work (arrival ∷ rest)
+    holds_taken dues work old rest arrival moved = reordered dues dues work work old (arrival ∷ rest) (same dues) (same work) moved
 
-pub taken_item : (xs : List Pending) (i : ℕ) (x : Pending) → slice_get xs i ≡ Some x → (k : Pending) → IsIn xs k ↔ IsIn (x ∷ remove xs i) k
-taken_item xs i x at k = (to, from)
+    -- nothing is due, nothing is at hand and nothing waits
+    pub holds_ended : Holds slots slot labels recorded [] [] [] → IsSettled (stock slots) (λ f. KeptIn labels (Some f)) (KeptIn labels None)
+    holds_ended was = whole.ended (stock slots) slot (IsIn (facts_of labels.list.items)) (KeptIn labels) (RecordedIn recorded) (DueIn []) (IsAtHand []) (HasCome []) was (λ t E k. k.1) (λ i g m w. w.1) (λ g m c. c.1)
+
+pub taken_item : {X : Type 0} (xs : List X) (i : ℕ) (x : X) → slice_get xs i ≡ Some x → (k : X) → IsIn xs k ↔ IsIn (x ∷ remove xs i) k
+taken_item {X} xs i x at k = (to, from)
   where
     parts : xs ≡ take i xs ++ (x ∷ drop (suc i) xs)
     parts =
@@ -219,26 +239,28 @@ taken_item xs i x at k = (to, from)
         sym (take-append-drop i xs) ∙ ap (λ l. take i xs ++ l) (drop-cons xs i x low ∙ ap (λ y. y ∷ drop (suc i) xs) is)
 
     to : IsIn xs k → IsIn (x ∷ remove xs i) k
-    to h = elim (IsIn-append (take i xs) (x ∷ drop (suc i) xs) k (let P : List Pending → Type 0 = λ l. IsIn l k in subst P parts h)) [
+    to h = elim (IsIn-append (take i xs) (x ∷ drop (suc i) xs) k (let P : List X → Type 0 = λ l. IsIn l k in subst P parts h)) [
       | inl a ↦ inr (IsIn-left (take i xs) (drop (suc i) xs) k a)
       | inr b ↦ elim b [ inl e ↦ inl e | inr r ↦ inr (IsIn-right (take i xs) (drop (suc i) xs) k r) ]
     ]
 
     from : IsIn (x ∷ remove xs i) k → IsIn xs k
-    from h = let P : List Pending → Type 0 = λ l. IsIn l k in subst P (sym parts) (elim h [
+    from h = let P : List X → Type 0 = λ l. IsIn l k in subst P (sym parts) (elim h [
       | inl e ↦ IsIn-right (take i xs) (x ∷ drop (suc i) xs) k (inl e)
       | inr r ↦ elim (IsIn-append (take i xs) (drop (suc i) xs) k r) [ inl a ↦ IsIn-left (take i xs) (x ∷ drop (suc i) xs) k a | inr b ↦ IsIn-right (take i xs) (x ∷ drop (suc i) xs) k (inr b) ]
     ])
 
 pub at_rest :
-    (slots : List (Option Assumption)) (w : Update) → Propagates slots w → w.due.items ≡ [] → w.agenda ≡ [] → AreDistinct (facts_of w.nodes.list.items) → IsAtRest (stock slots) w
-at_rest slots w was none_due nothing_waits once = record {
+    (slots : List (Option Assumption)) (w : Update) → Propagates slots w → w.due.items ≡ [] → w.work.items ≡ [] → w.agenda ≡ [] → AreDistinct (facts_of w.nodes.list.items)
+    → IsAtRest (stock slots) w
+at_rest slots w was none_due none_at_hand nothing_waits once = record {
   up_to_date = record {
-    settled = holds_ended slots w.slot w.nodes w.recorded (rw (← none_due, ← nothing_waits) was);
+    settled = holds_ended slots w.slot w.nodes w.recorded (rw (← none_due, ← none_at_hand, ← nothing_waits) was);
     are = was.are;
     were_met = was.were_met;
     once = once;
   };
   none_due = none_due;
+  none_at_hand = none_at_hand;
   nothing_waits = nothing_waits;
 }

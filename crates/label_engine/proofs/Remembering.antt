@@ -64,12 +64,12 @@ module _ (slots : Slots) (slot : ℕ) (what : Assumption) (free : stock slots sl
   -- the work begins from what is kept
   module _ (old : Update) (kept : IsAtRest (stock slots) old) where
     abbrev Begun : Update
-    Begun = record { slot = slot; nodes = old.nodes; recorded = old.recorded; due = old.due; agenda = old.agenda }
+    Begun = record { slot = slot; nodes = old.nodes; recorded = old.recorded; due = old.due; work = old.work; agenda = old.agenda }
 
     pub begun : (now : Slots) → now ≡ Now → IsAtRest (before now slot) Begun
     begun now e =
         let P : Stock ℕ → Type 0 = λ S. AreUpToDate S old.nodes old.recorded in
-        record { up_to_date = subst P (sym (ap (λ l. before l slot) e ∙ before_is slots slot (Some what) free)) kept.up_to_date; none_due = kept.none_due; nothing_waits = kept.nothing_waits }
+        record { up_to_date = subst P (sym (ap (λ l. before l slot) e ∙ before_is slots slot (Some what) free)) kept.up_to_date; none_due = kept.none_due; none_at_hand = kept.none_at_hand; nothing_waits = kept.nothing_waits }
 
     -- memory ran out: what is kept is kept as it was
     module _ (new : Update) (now : Slots) (now_is : now ≡ Now) (taken : IsTakenBack now Begun new) (freed : Slots) (freed_is : freed ≡ set now slot None) where

@@ -196,8 +196,8 @@ module _ (f : Fact) (list : List Inferred) (shelves : List (List Inferred)) (are
   pub near_only : (i : Inferred) → IsIn s i → IsIn list i
   near_only i h = let P : List Inferred → Type 0 = λ l. IsIn l i in (IsIn-filter (lies_on (key f)) list i (subst P (are.each (key f) s at) h)).0
 
--- the same waits at what is near
-pub items_near : (f : Fact) (e : Env) (near list : List Inferred) → filter (goes_from f) near ≡ filter (goes_from f) list → items_at (Some f) e near ≡ items_at (Some f) e list
+-- the same comes to hand from what is near
+pub items_near : (f : Fact) (e : Env) (near list : List Inferred) → filter (goes_from f) near ≡ filter (goes_from f) list → items_at f e near ≡ items_at f e list
 items_near f e near list same = ap₂ (λ (xs ys : List Pending). xs ++ ys) (kind false) (kind true) where
   kind : (clash : Bool) → items_to clash f e near ≡ items_to clash f e list
   kind clash =

@@ -48,7 +48,7 @@ module _
     (slots : List (Option Assumption)) (w mid new : Update) (rest : IsAtRest (before slots w.slot) w) (s : Survives w mid)
     (met recorded : ℕ) (met_is : met ≡ length w.nodes.list.items) (recorded_is : recorded ≡ length w.recorded)
     (labels_new : EachDrops (λ F. IsTrue (F mid.slot)) (take met mid.nodes.list.items) new.nodes.list.items) (nogoods_new : Drops (HasMember mid.nodes.nogoods) (HasMember new.nodes.nogoods) (λ F. IsTrue (F mid.slot)))
-    (recorded_new : new.recorded ≡ take recorded mid.recorded) (due_new : new.due.items ≡ []) (agenda_new : new.agenda ≡ []) (slot_new : new.slot ≡ mid.slot)
+    (recorded_new : new.recorded ≡ take recorded mid.recorded) (due_new : new.due.items ≡ []) (work_new : new.work.items ≡ []) (agenda_new : new.agenda ≡ []) (slot_new : new.slot ≡ mid.slot)
   where
     kept_lacks : (t : Target) (E : Set ℕ) → KeptIn w.nodes t E → IsFalse (E w.slot)
     kept_lacks None E k = lacks slots w.slot E (rest.up_to_date.settled.nogood_environments E k)
@@ -104,6 +104,7 @@ module _
           once = subst AreDistinct (sym met_same) rest.up_to_date.once;
         };
         none_due = due_new;
+        none_at_hand = work_new;
         nothing_waits = agenda_new;
       };
       same = same_left;

@@ -20,6 +20,7 @@ use Rattle.inference_search.specs.declared.inferred.Inferred.{Inferred}
 use Rattle.assumption_slots.specs.Slots.{stock}
 use Rattle.inference_search.specs.Inferences.{facts, inference, RecordedIn}
 use Rattle.inference_search.specs.Found.{AreFound}
+use Rattle.label_engine.specs.declared.update.Arrival.{Arrival}
 use Rattle.label_engine.specs.declared.update.Pending.{Pending}
 use Rattle.label_engine.specs.declared.update.Update.{Update}
 use Rattle.label_engine.specs.Nodes.{is_same, facts_of, label_in, KeptIn, AreSupported, reaches}
@@ -74,25 +75,33 @@ IsNeededOrSaid recorded i old new = (new ≡ old ++ i ∷ []) ⊎ ((new ≡ old)
 abbrev pub DueIn : List Insertion → Family
 DueIn due t E = (d : Insertion) × IsIn due d × (d.target ≡ t) × (members d.env ≡ E)
 
--- the inference waits with an environment of one of its facts
-abbrev pub WaitsIn : List Pending → RecordedInference → Fact → Set ℕ → Type 0
-WaitsIn agenda j f E = (p : Pending) × IsIn agenda p × (inference p.inferred ≡ j) × (p.at ≡ f) × (members p.env ≡ E)
+-- the inference is at hand with an environment of one of its facts
+abbrev pub IsAtHand : List Pending → RecordedInference → Fact → Set ℕ → Type 0
+IsAtHand work j f E = (p : Pending) × IsIn work p × (inference p.inferred ≡ j) × (p.at ≡ f) × (members p.env ≡ E)
 
--- what holds while environments are to be put in and inferences wait
-abbrev pub Holds : List (Option Assumption) → ℕ → Nodes → List Inferred → List Insertion → List Pending → Type 0
-Holds slots slot nodes recorded due agenda = IsPropagating (stock slots) slot (IsIn (facts_of nodes.list.items)) (KeptIn nodes) (RecordedIn recorded) (DueIn due) (WaitsIn agenda)
+-- the environment came to the fact and was not carried out
+abbrev pub HasCome : List Arrival → Fact → Set ℕ → Type 0
+HasCome agenda f E = (a : Arrival) × IsIn agenda a × (a.fact ≡ f) × (members a.env ≡ E)
+
+-- what holds while environments are to be put in, inferences are at hand, and environments that came wait
+abbrev pub Holds : List (Option Assumption) → ℕ → Nodes → List Inferred → List Insertion → List Pending → List Arrival → Type 0
+Holds slots slot nodes recorded due work agenda = IsPropagating (stock slots) slot (IsIn (facts_of nodes.list.items)) (KeptIn nodes) (RecordedIn recorded) (DueIn due) (IsAtHand work) (HasCome agenda)
 
 -- it holds of the update
 abbrev pub Propagates : List (Option Assumption) → Update → Type 0
-Propagates slots u = Holds slots u.slot u.nodes u.recorded u.due.items u.agenda
+Propagates slots u = Holds slots u.slot u.nodes u.recorded u.due.items u.work.items u.agenda
 
 -- it holds with one insertion more that is due
 abbrev pub DueAlso : List (Option Assumption) → Insertion → Update → Type 0
-DueAlso slots due u = Holds slots u.slot u.nodes u.recorded (due ∷ u.due.items) u.agenda
+DueAlso slots due u = Holds slots u.slot u.nodes u.recorded (due ∷ u.due.items) u.work.items u.agenda
 
--- it holds with one inference more that waits
-abbrev pub WaitsAlso : List (Option Assumption) → Pending → Update → Type 0
-WaitsAlso slots item u = Holds slots u.slot u.nodes u.recorded u.due.items (item ∷ u.agenda)
+-- it holds with one inference more that is at hand
+abbrev pub IsAtHandAlso : List (Option Assumption) → Pending → Update → Type 0
+IsAtHandAlso slots item u = Holds slots u.slot u.nodes u.recorded u.due.items (item ∷ u.work.items) u.agenda
+
+-- it holds with one environment more that came
+abbrev pub HasComeAlso : List (Option Assumption) → Arrival → Update → Type 0
+HasComeAlso slots arrival u = Holds slots u.slot u.nodes u.recorded u.due.items u.work.items (arrival ∷ u.agenda)
 
 -- the inference, with an environment of one of its facts
 abbrev pub item_at : Fact → Env → Inferred → Pending
@@ -114,13 +123,13 @@ abbrev pub items_to : Bool → Fact → Env → List Inferred → List Pending
 items_to clash f e recorded = map (item_at f e) (filter (goes_to clash f) recorded)
 
 -- each inference that goes from the fact, with the environment: those to a clash last
-abbrev pub items_at : Target → Env → List Inferred → List Pending
-items_at None e recorded = []
-items_at (Some f) e recorded = items_to false f e recorded ++ items_to true f e recorded
+abbrev pub items_at : Fact → Env → List Inferred → List Pending
+items_at f e recorded = items_to false f e recorded ++ items_to true f e recorded
 
--- each inference that goes from the target of what is put in, with its environment
-abbrev pub items_for : Insertion → List Inferred → List Pending
-items_for due recorded = items_at due.target due.env recorded
+-- the environment comes to the target, where that is a fact
+abbrev pub arrivals_at : Target → Env → List Arrival
+arrivals_at None e = []
+arrivals_at (Some f) e = record { fact = f; env = e } ∷ []
 
 -- one of the facts that the inference goes from, if it goes from any
 abbrev pub some_fact : Inferred → Option Fact
@@ -203,13 +212,14 @@ pub record AreUpToDate (S : Stock ℕ) (nodes : Nodes) (recorded : List Inferred
   pub were_met : (f : Fact) (E : Set ℕ) → KeptIn nodes (Some f) E → IsIn (facts_of nodes.list.items) f
   pub once : AreDistinct (facts_of nodes.list.items)
 
--- all is up to date with the stock, nothing is due and nothing waits
+-- all is up to date with the stock, nothing is due, nothing is at hand and nothing waits
 pub record IsAtRest (S : Stock ℕ) (u : Update) : Type 0 where
   pub up_to_date : AreUpToDate S u.nodes u.recorded
   pub none_due : u.due.items ≡ []
+  pub none_at_hand : u.work.items ≡ []
   pub nothing_waits : u.agenda ≡ []
 
--- how much is left to do: the pairs of a target and an environment that are not reached, and within them what waits
+-- how much is left to do: the pairs of a target and an environment that are not reached, and within them what came
 abbrev pub load : Update → ℕ
 load u = uncovered (reaches u.nodes) * 2 ^ 64 + length u.agenda
 
@@ -231,6 +241,7 @@ pub record IsReady (slots : List (Option Assumption)) (due : Insertion) (old new
   pub labels_same : (f : Fact) → label_in new.nodes.list.items f ≡ label_in old.nodes.list.items f
   pub nogoods_same : new.nodes.nogoods ≡ old.nodes.nogoods
   pub due_same : new.due.items ≡ old.due.items
+  pub work_same : new.work.items ≡ old.work.items
   pub agenda_same : new.agenda ≡ old.agenda
   pub same_slot : new.slot ≡ old.slot
 
@@ -245,13 +256,14 @@ pub record Survives (old new : Update) : Type 0 where
   pub met : facts_of new.nodes.list.items ≡ facts_of old.nodes.list.items ++ newly
   pub once : AreDistinct (facts_of old.nodes.list.items) → AreDistinct (facts_of new.nodes.list.items)
 
--- the environment is put in at its target, and waits at each recorded inference that goes from there
+-- the environment is put in at its target; to a fact it came
 pub record IsPutThere (due : Insertion) (old new : Update) : Type 0 where
   pub put : IsPut due.target (members due.env) (KeptIn old.nodes) (KeptIn new.nodes)
   pub met : facts_of new.nodes.list.items ≡ facts_of old.nodes.list.items
-  pub agenda : new.agenda ≡ old.agenda ++ items_for due old.recorded
+  pub agenda : new.agenda ≡ old.agenda ++ arrivals_at due.target due.env
   pub recorded : new.recorded ≡ old.recorded
   pub due_same : new.due.items ≡ old.due.items
+  pub work_same : new.work.items ≡ old.work.items
   pub slot : new.slot ≡ old.slot
 
 -- the labels and the nogoods are as before
@@ -268,6 +280,7 @@ pub record HasMet (slots : List (Option Assumption)) (f : Fact) (old new : Updat
   pub recorded : new.recorded ≡ old.recorded ++ needed
   pub met : facts_of new.nodes.list.items ≡ facts_of old.nodes.list.items ++ f ∷ []
   pub due : new.due.items ≡ old.due.items
+  pub work : new.work.items ≡ old.work.items
   pub agenda : new.agenda ≡ old.agenda
   pub slot : new.slot ≡ old.slot
 
@@ -302,4 +315,5 @@ pub record HasForgotten (slot : ℕ) (old new : Update) : Type 0 where
   pub nogoods : Drops (HasMember old.nodes.nogoods) (HasMember new.nodes.nogoods) (λ F. IsTrue (F slot))
   pub recorded : new.recorded ≡ filter (is_still_met new.nodes.list.items slot) old.recorded
   pub due_same : new.due.items ≡ old.due.items
+  pub work_same : new.work.items ≡ old.work.items
   pub agenda_same : new.agenda ≡ old.agenda

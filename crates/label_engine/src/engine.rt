@@ -85,6 +85,7 @@ impl Engine {
             nodes,
             recorded,
             due: Vec::new(alloc),
+            work: Vec::new(alloc),
             agenda: Agenda::new(alloc),
         };
         Ok(Engine {

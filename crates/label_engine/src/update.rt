@@ -12,7 +12,7 @@ ghost use Rattle.circuit_model.specs.declared.model.Assumption.TheVariants.{Part
 ghost use Rattle.propagation.specs.Uncovered.{Fits, TargetFits};
 ghost use Rattle.propagation.specs.Propagating.{IsReached};
 ghost use Rattle.label_engine.specs.Nodes.{facts_of, KeptIn, IsMet, EachDrops};
-ghost use Rattle.label_engine.specs.Update.{item_at, items_at, items_to, ends_in, some_fact, goes_from_none, due_with, items_with, items_from, other_fact, made_by, HasUnions, HasUnionsWith, HasMet, AreKeptAlike, IsPutThere, Propagates, DueAlso, WaitsAlso, CarriesOn, IsReady, BeginsUnions, AreKeptAt, IsAddedOrReached, Survives, before, IsAtRest, IsTakenBack, HasForgotten};
+ghost use Rattle.label_engine.specs.Update.{item_at, items_at, items_to, ends_in, some_fact, goes_from_none, due_with, items_with, items_from, other_fact, made_by, HasUnions, HasUnionsWith, HasMet, AreKeptAlike, IsPutThere, Propagates, DueAlso, IsAtHandAlso, HasComeAlso, CarriesOn, IsReady, BeginsUnions, AreKeptAt, IsAddedOrReached, Survives, before, IsAtRest, IsTakenBack, HasForgotten};
 ghost use Rattle.assumption_slots.specs.Slots.{stock};
 
 use crate::node::{Insertion, Nodes};
@@ -26,7 +26,14 @@ use label_algebra::Label;
 use propagation_agenda::{Agenda, Picker};
 use std::alloc::{AllocError, Global};
 
-/// An inference that waits, with an environment that is new at one of its facts.
+/// An environment that came to the label of a fact, and waits for the inferences from there.
+#[derive(Clone, Copy)]
+pub struct Arrival {
+    pub fact: Fact,
+    pub env: Env,
+}
+
+/// An inference that is at hand, with an environment of one of its facts.
 #[derive(Clone, Copy)]
 pub struct Pending {
     pub inferred: Inferred,
@@ -34,15 +41,16 @@ pub struct Pending {
     pub env: Env,
 }
 
-/// What is kept, what is due and what waits, while labels are brought up to date with the assumption at a slot. Where
-/// nothing is under way, nothing is due and nothing waits.
+/// What is kept, what is due, what is at hand and what waits, while labels are brought up to date with the assumption at a
+/// slot. Where nothing is under way, there is none of the last three.
 #[derive(Drop)]
 pub struct Update {
     pub slot: u16,
     pub nodes: Nodes,
     pub recorded: Records,
     pub due: Vec<Insertion>,
-    pub agenda: Agenda<Pending>,
+    pub work: Vec<Pending>,
+    pub agenda: Agenda<Arrival>,
 }
 
 /// Where the last union was found to be covered: the places of a member of the label, and of a nogood.
@@ -59,19 +67,19 @@ fn ends_in(inferred: &Inferred, clash: bool) -> bool
     inferred.to.is_none() == clash
 }
 
-// Each of the inferences from the fact to a clash, or each to a value, waits with the environment.
-fn wait_at_uses(
-    agenda: &mut Agenda<Pending>,
+// Each of the inferences from the fact to a clash, or each to a value, is at hand with the environment.
+fn bring_uses(
+    work: &mut Vec<Pending>,
     recorded: &[Inferred],
     fact: &Fact,
     env: &Env,
     clash: bool,
 ) -> Result<(), AllocError>
-    ensures { IfOk result (λ _. agenda.new ≡ agenda.old ++ items_to clash fact.now env.now recorded.now) }
+    ensures { IfOk result (λ _. work.new.items ≡ work.old.items ++ items_to clash fact.now env.now recorded.now) }
 {
     for inferred in recorded {
         if ends_in(inferred, clash) && uses(inferred, fact) {
-            agenda.push(Pending {
+            work.push(Pending {
                 inferred: *inferred,
                 at: *fact,
                 env: *env,
@@ -81,19 +89,19 @@ fn wait_at_uses(
     Ok(())
 }
 
-// Each of the inferences from the fact waits with the environment. Clashes come last, so that who chooses what came last
-// finds a clash before all that would be in vain after it.
-fn wait_at_all(
-    agenda: &mut Agenda<Pending>,
+// Each of the inferences from the fact is at hand with the environment. Clashes come last, and what came last is carried out
+// first: so a clash is found before all that would be in vain after it.
+fn bring_all(
+    work: &mut Vec<Pending>,
     recorded: &Records,
     fact: &Fact,
     env: &Env,
 ) -> Result<(), AllocError>
-    ensures { IfOk result (λ _. agenda.new ≡ agenda.old ++ items_at (Some fact.now) env.now recorded.now) }
+    ensures { IfOk result (λ _. work.new.items ≡ work.old.items ++ items_at fact.now env.now recorded.now) }
 {
     let near = recorded.near(fact);
-    wait_at_uses(agenda, near, fact, env, false)?;
-    wait_at_uses(agenda, near, fact, env, true)
+    bring_uses(work, near, fact, env, false)?;
+    bring_uses(work, near, fact, env, true)
 }
 
 // What the inferences from no fact lead to is due, with the environment.
@@ -118,17 +126,17 @@ fn fact_of(inferred: &Inferred) -> Option<Fact>
     inferred.first.or(inferred.second)
 }
 
-// The inference waits with each environment of the label.
-fn wait_with_each(
-    agenda: &mut Agenda<Pending>,
+// The inference is at hand with each environment of the label.
+fn bring_with_each(
+    work: &mut Vec<Pending>,
     inferred: &Inferred,
     at: &Fact,
     label: &Label,
 ) -> Result<(), AllocError>
-    ensures { IfOk result (λ _. agenda.new ≡ agenda.old ++ map (λ e. item_at at.now e inferred.now) label.now) }
+    ensures { IfOk result (λ _. work.new.items ≡ work.old.items ++ map (λ e. item_at at.now e inferred.now) label.now) }
 {
     for env in label.members() {
-        agenda.push(Pending {
+        work.push(Pending {
             inferred: *inferred,
             at: *at,
             env: *env,
@@ -137,33 +145,33 @@ fn wait_with_each(
     Ok(())
 }
 
-// The inference waits with each environment of one of its facts, if it goes from any.
-fn wait_at_one(
-    agenda: &mut Agenda<Pending>,
+// The inference is at hand with each environment of one of its facts, if it goes from any.
+fn bring_at_one(
+    work: &mut Vec<Pending>,
     nodes: &Nodes,
     inferred: &Inferred,
 ) -> Result<(), AllocError>
-    ensures { IfOk result (λ _. agenda.new ≡ agenda.old ++ items_with nodes.now.list.items inferred.now (some_fact inferred.now)) }
+    ensures { IfOk result (λ _. work.new.items ≡ work.old.items ++ items_with nodes.now.list.items inferred.now (some_fact inferred.now)) }
 {
     let Some(fact) = fact_of(inferred) else {
         return Ok(());
     };
     match nodes.label(&fact) {
-        Some(label) => wait_with_each(agenda, inferred, &fact, label),
+        Some(label) => bring_with_each(work, inferred, &fact, label),
         None => Ok(()),
     }
 }
 
 // The same for each of the inferences.
-fn wait_at_each(
-    agenda: &mut Agenda<Pending>,
+fn bring_at_each(
+    work: &mut Vec<Pending>,
     nodes: &Nodes,
     found: &[Inferred],
 ) -> Result<(), AllocError>
-    ensures { IfOk result (λ _. agenda.new ≡ agenda.old ++ items_from nodes.now.list.items found.now) }
+    ensures { IfOk result (λ _. work.new.items ≡ work.old.items ++ items_from nodes.now.list.items found.now) }
 {
     for inferred in found {
-        wait_at_one(agenda, nodes, inferred)?;
+        bring_at_one(work, nodes, inferred)?;
     }
     Ok(())
 }
@@ -228,8 +236,8 @@ fn fact_fits(fact: Fact)
     let _fact = fact;
 }
 
-// For proofs alone: fewer than 2 ^ 64 items wait, as they lie in memory.
-fn length_fits(agenda: &Agenda<Pending>)
+// For proofs alone: fewer than 2 ^ 64 environments wait, as they lie in memory.
+fn length_fits(agenda: &Agenda<Arrival>)
     ensures { length agenda.now < 2 ^ 64 }
 {
     let _length = agenda.len();
@@ -357,7 +365,7 @@ impl Update {
         self.nodes.meet(alloc, fact)
     }
 
-    // What is due is put in, and waits at each inference that goes from there.
+    // What is due is put in. At a fact it waits for the inferences from there.
     fn put_there(&mut self, due: &Insertion) -> Result<(), AllocError>
         requires met { (f : Fact) → due.now.target ≡ Some f → IsMet self.old.nodes.list.items f }
         requires out { IsReached (KeptIn self.old.nodes) due.now.target (members due.now.env) → ⊥ }
@@ -368,7 +376,10 @@ impl Update {
         ensures slot { self.new.slot ≡ self.old.slot }
     {
         if let Some(fact) = &due.target {
-            wait_at_all(&mut self.agenda, &self.recorded, fact, &due.env)?;
+            self.agenda.push(Arrival {
+                fact: *fact,
+                env: due.env,
+            })?;
         }
         self.nodes.put(due)
     }
@@ -398,6 +409,7 @@ impl Update {
         requires { DueAlso slots.now due.now self.old }
         ensures ok { IfOk result (λ _. CarriesOn slots.now self.old self.new) }
         ensures due_same { IfOk result (λ _. self.new.due.items ≡ self.old.due.items) }
+        ensures work_same { IfOk result (λ _. self.new.work.items ≡ self.old.work.items) }
         ensures survives { Survives self.old self.new }
     {
         if self.nodes.reaches(due) {
@@ -415,6 +427,7 @@ impl Update {
         requires { Propagates slots.now self.old }
         ensures ok { IfOk result (λ _. CarriesOn slots.now self.old self.new) }
         ensures none_due { IfOk result (λ _. self.new.due.items ≡ []) }
+        ensures work_same { IfOk result (λ _. self.new.work.items ≡ self.old.work.items) }
         ensures survives { Survives self.old self.new }
     {
         while let Some(due) = self.due.pop() {
@@ -423,11 +436,12 @@ impl Update {
         Ok(())
     }
 
-    // What waits is carried out: its unions are due, and all that is due is put in.
+    // What is at hand is carried out: its unions are due, and all that is due is put in.
     fn carry_out(&mut self, alloc: Global, slots: &Slots, item: &Pending) -> Result<(), AllocError>
-        requires { WaitsAlso slots.now item.now self.old }
+        requires { IsAtHandAlso slots.now item.now self.old }
         ensures ok { IfOk result (λ _. CarriesOn slots.now self.old self.new) }
         ensures none_due { IfOk result (λ _. self.new.due.items ≡ []) }
+        ensures work_same { IfOk result (λ _. self.new.work.items ≡ self.old.work.items) }
         ensures survives { Survives self.old self.new }
     {
         slots_fit(slots);
@@ -435,7 +449,40 @@ impl Update {
         self.put_all_in(alloc, slots)
     }
 
-    // What waits is carried out, in the picker's order, until nothing waits.
+    // All that is at hand is carried out, the last first.
+    fn work_off(&mut self, alloc: Global, slots: &Slots) -> Result<(), AllocError>
+        requires propagates { Propagates slots.now self.old }
+        requires none_due { self.old.due.items ≡ [] }
+        ensures ok { IfOk result (λ _. CarriesOn slots.now self.old self.new) }
+        ensures none_due { IfOk result (λ _. self.new.due.items ≡ []) }
+        ensures none_at_hand { IfOk result (λ _. self.new.work.items ≡ []) }
+        ensures survives { Survives self.old self.new }
+    {
+        while let Some(item) = self.work.pop() {
+            self.carry_out(alloc, slots, &item)?;
+        }
+        Ok(())
+    }
+
+    // An environment that came is carried out with each inference from its fact.
+    fn bring_in(
+        &mut self,
+        alloc: Global,
+        slots: &Slots,
+        arrival: &Arrival,
+    ) -> Result<(), AllocError>
+        requires came { HasComeAlso slots.now arrival.now self.old }
+        requires none_due { self.old.due.items ≡ [] }
+        ensures ok { IfOk result (λ _. CarriesOn slots.now self.old self.new) }
+        ensures none_due { IfOk result (λ _. self.new.due.items ≡ []) }
+        ensures none_at_hand { IfOk result (λ _. self.new.work.items ≡ []) }
+        ensures survives { Survives self.old self.new }
+    {
+        bring_all(&mut self.work, &self.recorded, &arrival.fact, &arrival.env)?;
+        self.work_off(alloc, slots)
+    }
+
+    // What begins is carried out, and then what came, in the picker's order, until nothing waits.
     fn settle<P: Picker>(
         &mut self,
         alloc: Global,
@@ -448,10 +495,11 @@ impl Update {
         ensures survives { Survives self.old self.new }
     {
         self.put_all_in(alloc, slots)?;
+        self.work_off(alloc, slots)?;
         'picks: while !self.agenda.is_empty() {
             let place = picker.pick(self.agenda.len());
-            let item = self.agenda.take_at(place);
-            self.carry_out(alloc, slots, &item)?;
+            let arrival = self.agenda.take_at(place);
+            self.bring_in(alloc, slots, &arrival)?;
         }
         Ok(())
     }
@@ -473,7 +521,7 @@ impl Update {
     }
 
     // A component begins: of its inferences, those that are needed are recorded. What they lead to from no fact is due, and
-    // the others wait at each environment of one of their facts.
+    // the others are at hand with each environment of one of their facts.
     fn begin_part(&mut self, alloc: Global, slots: &Slots) -> Result<(), AllocError>
         requires below { self.old.slot < SLOTS }
         requires works { (part : List Instance) × (stock slots.now self.old.slot ≡ Some (Part part)) }
@@ -487,7 +535,7 @@ impl Update {
         record_all(&mut self.recorded, &needed)?;
         let env = made_by(Some(self.slot));
         due_from_none(&mut self.due, &needed, &env)?;
-        wait_at_each(&mut self.agenda, &self.nodes, &needed)
+        bring_at_each(&mut self.work, &self.nodes, &needed)
     }
 
     // The assumption at the slot begins.
@@ -528,12 +576,14 @@ impl Update {
         ensures nogoods { Drops (HasMember self.old.nodes.nogoods) (HasMember self.new.nodes.nogoods) (λ F. IsTrue (F self.old.slot)) }
         ensures recorded { self.new.recorded ≡ take recorded self.old.recorded }
         ensures due { self.new.due.items ≡ [] }
+        ensures work { self.new.work.items ≡ [] }
         ensures agenda { self.new.agenda ≡ [] }
         ensures slot { self.new.slot ≡ self.old.slot }
     {
         self.nodes.take_back(self.slot, met);
         self.recorded.truncate(recorded);
         self.due.clear();
+        self.work.clear();
         self.agenda.clear();
     }
 

@@ -10,8 +10,9 @@ use Rattle.environment_sets.specs.Families.{IsCovered, IsAntichain}
 use Rattle.circuit_model.specs.Settled.{IsSettled}
 use Rattle.circuit_model.specs.Laws.{HasOneMore}
 use Rattle.circuit_model.proofs.Settled as settled_is
-use Rattle.propagation.specs.Propagating.{Target, Family, RecordedInference, HasAt, Leads, HasMaker, AreChosen, SomeWaits, IsReached, IsDue, IsSound, All, AreRecorded, AreCarriedOut, IsPendingSound, IsWaitingSound, IsPropagating}
+use Rattle.propagation.specs.Propagating.{Target, Family, RecordedInference, HasAt, Leads, HasMaker, AreChosen, SomeWaits, IsReached, IsDue, IsSound, All, AreRecorded, AreCarriedOut, IsPendingSound, IsWaitingSound, IsPropagating, Waits}
 use Rattle.propagation.proofs.Unions.{leads_on, has_more}
+use Rattle.propagation.proofs.Steps.{SomeWaits-map}
 use Rattle.propagation.proofs.Entry.{leads_more, sound_more, entry_reaches}
 
 chosen_has : (S : Stock ℕ) (kept : Family) (sound : (f : Fact) (E : Set ℕ) → kept (Some f) E → Has S f E) (E : Set ℕ) (fs : List Fact) (ms : List (Set ℕ)) → AreChosen kept E fs ms → (f : Fact) → IsIn fs f → Has S f E
@@ -24,9 +25,13 @@ chosen_has S kept sound E (g ∷ fs) (m ∷ ms) c f (inr i) = chosen_has S kept 
 abbrev pub Nothing : Family
 Nothing t E = ⊥
 
--- nothing waits
+-- nothing is at hand
 abbrev pub NoItem : RecordedInference → Fact → Set ℕ → Type 0
 NoItem j f E = ⊥
+
+-- nothing came
+abbrev pub NoArrival : Fact → Set ℕ → Type 0
+NoArrival f E = ⊥
 
 module _ (S : Stock ℕ) (kept : Family) (settled : IsSettled S (λ f. kept (Some f)) (kept None)) where
   reached : (t : Target) (E : Set ℕ) → HasAt S t E → IsReached kept t E
@@ -49,8 +54,8 @@ module _ (S : Stock ℕ) (kept : Family) (settled : IsSettled S (λ f. kept (Som
     -- one reading more: it alone is to be put in
     pub carried_reading :
         (recorded : RecordedInference → Type 0) → ((j : RecordedInference) → recorded j → Leads S j.from j.maker j.to) → (f : Fact) → R slot ≡ Some (Reading f) → (pending : Family)
-        → ((E : Set ℕ) → IsTrue (E slot) → IsCovered (pending (Some f)) E) → ((k : ℕ) → (k ≡ slot) ⊎ (k ≢ slot)) → AreCarriedOut R kept recorded pending NoItem
-    carried_reading recorded leads f reads pending alone decide = record {
+        → ((E : Set ℕ) → IsTrue (E slot) → IsCovered (pending (Some f)) E) → ((k : ℕ) → (k ≡ slot) ⊎ (k ≢ slot)) → (waits : RecordedInference → Fact → Set ℕ → Type 0) → AreCarriedOut R kept recorded pending waits
+    carried_reading recorded leads f reads pending alone decide waits = record {
       readings = λ k g E named inside. elim (decide k) [
         | inl e ↦
             let same : Some (Reading g) ≡ Some (Reading f) = (let P : ℕ → Type 0 = λ i. R i ≡ Some (Reading g) in sym (subst P e named) ∙ reads) in
@@ -87,24 +92,25 @@ module _
     sound_now = sound_more S R slot more kept (sound_of_settled S kept settled)
 
     -- one reading more: it alone is to be put in, and nothing waits
-    pub start_reading : (f : Fact) → R slot ≡ Some (Reading f) → ((E : Set ℕ) → IsTrue (E slot) → IsCovered (pending (Some f)) E) → IsPropagating R slot met kept recorded pending NoItem
+    pub start_reading : (f : Fact) → R slot ≡ Some (Reading f) → ((E : Set ℕ) → IsTrue (E slot) → IsCovered (pending (Some f)) E) → IsPropagating R slot met kept recorded pending NoItem NoArrival
     start_reading f reads alone = record {
       sound = sound_now;
       before = entry_reaches S R slot more kept settled;
       are = recorded_reading S kept settled R slot more met recorded are f reads decide;
       were_met = were_met;
-      carried = carried_reading S kept settled R slot more recorded are.leads f reads pending alone decide;
+      carried = carried_reading S kept settled R slot more recorded are.leads f reads pending alone decide (Waits recorded NoItem NoArrival);
       due = due;
       waiting = record { inference = λ j f m w. absurd w; antecedent = λ j f m w. absurd w; environment = λ j f m w. absurd w; sound = λ j f m w. absurd w };
+      arrivals = record { environment = λ f m c. absurd c; sound = λ f m c. absurd c };
     }
 
-    -- one component more: its inferences are recorded, and each choice for them waits or is to be put in
+    -- one component more: its inferences are recorded, and each choice for them is at hand or is to be put in
     pub start_part :
-        (part : List Instance) → R slot ≡ Some (Part part) → (recorded' : RecordedInference → Type 0) (waits : RecordedInference → Fact → Set ℕ → Type 0) → AreRecorded R met All recorded'
-        → ((j : RecordedInference) → recorded' j → recorded j ⊎ (j.maker ≡ Some slot)) → IsWaitingSound R recorded' waits
-        → ((j : RecordedInference) (ms : List (Set ℕ)) (E : Set ℕ) → recorded' j → j.maker ≡ Some slot → AreChosen kept E j.from ms → HasMaker j.maker E → IsDue kept pending j.to E ⊎ SomeWaits (waits j) j.from ms)
-        → IsPropagating R slot met kept recorded' pending waits
-    start_part part named recorded' waits are' new waiting choices = record {
+        (part : List Instance) → R slot ≡ Some (Part part) → (recorded' : RecordedInference → Type 0) (at_hand : RecordedInference → Fact → Set ℕ → Type 0) → AreRecorded R met All recorded'
+        → ((j : RecordedInference) → recorded' j → recorded j ⊎ (j.maker ≡ Some slot)) → IsWaitingSound R recorded' at_hand
+        → ((j : RecordedInference) (ms : List (Set ℕ)) (E : Set ℕ) → recorded' j → j.maker ≡ Some slot → AreChosen kept E j.from ms → HasMaker j.maker E → IsDue kept pending j.to E ⊎ SomeWaits (at_hand j) j.from ms)
+        → IsPropagating R slot met kept recorded' pending at_hand NoArrival
+    start_part part named recorded' at_hand are' new waiting choices = record {
       sound = sound_now;
       before = entry_reaches S R slot more kept settled;
       are = are';
@@ -116,9 +122,13 @@ module _
         ];
         inferences = λ j ms E r chosen maker. elim (new j r) [
           | inl old ↦ inl (inl (choice_reached S kept settled j ms E (are.leads j old) chosen maker))
-          | inr made ↦ choices j ms E r made chosen maker
+          | inr made ↦ elim (choices j ms E r made chosen maker) [
+            | inl at_once ↦ inl at_once
+            | inr w ↦ inr (SomeWaits-map (at_hand j) (Waits recorded' at_hand NoArrival j) j.from ms (λ f m h. inl h) w)
+          ]
         ];
       };
       due = due;
       waiting = waiting;
+      arrivals = record { environment = λ f m c. absurd c; sound = λ f m c. absurd c };
     }

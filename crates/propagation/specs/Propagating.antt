@@ -127,12 +127,22 @@ pub record IsPendingSound (S : Stock ℕ) (pending : Family) : Type 0 where
   pub environments : (t : Target) (E : Set ℕ) → pending t E → IsEnvironment S E
   pub sound : (t : Target) (E : Set ℕ) → pending t E → HasAt S t E
 
--- what waits names a recorded inference, one of its facts, and an environment whose closure has it
-pub record IsWaitingSound (S : Stock ℕ) (recorded : RecordedInference → Type 0) (waits : RecordedInference → Fact → Set ℕ → Type 0) : Type 0 where
-  pub inference : (j : RecordedInference) (f : Fact) (E : Set ℕ) → waits j f E → recorded j
-  pub antecedent : (j : RecordedInference) (f : Fact) (E : Set ℕ) → waits j f E → IsIn j.from f
-  pub environment : (j : RecordedInference) (f : Fact) (E : Set ℕ) → waits j f E → IsEnvironment S E
-  pub sound : (j : RecordedInference) (f : Fact) (E : Set ℕ) → waits j f E → Has S f E
+-- what is at hand names a recorded inference, one of its facts, and an environment whose closure has it
+pub record IsWaitingSound (S : Stock ℕ) (recorded : RecordedInference → Type 0) (at_hand : RecordedInference → Fact → Set ℕ → Type 0) : Type 0 where
+  pub inference : (j : RecordedInference) (f : Fact) (E : Set ℕ) → at_hand j f E → recorded j
+  pub antecedent : (j : RecordedInference) (f : Fact) (E : Set ℕ) → at_hand j f E → IsIn j.from f
+  pub environment : (j : RecordedInference) (f : Fact) (E : Set ℕ) → at_hand j f E → IsEnvironment S E
+  pub sound : (j : RecordedInference) (f : Fact) (E : Set ℕ) → at_hand j f E → Has S f E
+
+-- an inference waits with a set at one of its facts: it is at hand there, or it is recorded and the set came to the fact and was
+-- not carried out
+abbrev pub Waits : (RecordedInference → Type 0) → (RecordedInference → Fact → Set ℕ → Type 0) → (Fact → Set ℕ → Type 0) → RecordedInference → Fact → Set ℕ → Type 0
+Waits recorded at_hand came j f E = at_hand j f E ⊎ (recorded j × IsIn j.from f × came f E)
+
+-- a set that came to a fact is an environment whose closure has it
+pub record HaveComeSoundly (S : Stock ℕ) (came : Fact → Set ℕ → Type 0) : Type 0 where
+  pub environment : (f : Fact) (E : Set ℕ) → came f E → IsEnvironment S E
+  pub sound : (f : Fact) (E : Set ℕ) → came f E → Has S f E
 
 -- the two keep the same sets that lack the slot
 abbrev pub AgreeWithout : ℕ → Family → Family → Type 0
@@ -146,12 +156,14 @@ pub record IsPut (t : Target) (U : Set ℕ) (old new : Family) : Type 0 where
 
 -- what holds from pick to pick, and after each set that is put in
 pub record IsPropagating
-    (S : Stock ℕ) (slot : ℕ) (met : Fact → Type 0) (kept : Family) (recorded : RecordedInference → Type 0) (pending : Family) (waits : RecordedInference → Fact → Set ℕ → Type 0) : Type 0 where
+    (S : Stock ℕ) (slot : ℕ) (met : Fact → Type 0) (kept : Family) (recorded : RecordedInference → Type 0) (pending : Family) (at_hand : RecordedInference → Fact → Set ℕ → Type 0)
+    (came : Fact → Set ℕ → Type 0) : Type 0 where
   pub sound : IsSound S kept
   -- all that is sound without the further slot is reached
   pub before : (t : Target) (E : Set ℕ) → IsFalse (E slot) → HasAt S t E → IsReached kept t E
   pub are : AreRecorded S met All recorded
   pub were_met : (f : Fact) (E : Set ℕ) → kept (Some f) E → met f
-  pub carried : AreCarriedOut S kept recorded pending waits
+  pub carried : AreCarriedOut S kept recorded pending (Waits recorded at_hand came)
   pub due : IsPendingSound S pending
-  pub waiting : IsWaitingSound S recorded waits
+  pub waiting : IsWaitingSound S recorded at_hand
+  pub arrivals : HaveComeSoundly S came

@@ -24,5 +24,5 @@ returns-clause-ok c =
     let recorded : c.record_all.new.recorded ≡ w.recorded ++ needed = c.in_ok-record_all.ensures.ok ∙ ap (λ l. w.recorded ++ l) c.deref-3.ensures.value in
     let due : c.due_from_none.new.due.items ≡ w.due.items ++ map (due_with c.made_by-env.result) (filter goes_from_none needed) =
     c.in_ok-due_from_none.ensures ∙ ap (λ l. w.due.items ++ map (due_with c.made_by-env.result) (filter goes_from_none l)) c.deref-4.ensures.value in
-    IfOk-map c.wait_at_each.result (λ x e. part_begins c.args.slots.now w c.requires.before c.made_by-env.result c.made_by-env.ensures c.requires.works.0 c.requires.works.1 found needed made are_needed c.record_all.new.recorded c.due_from_none.new.due.items c.wait_at_each.new.agenda recorded due
-    (e ∙ ap (λ l. w.agenda ++ items_from w.nodes.list.items l) c.deref-5.ensures.value)) c.wait_at_each.ensures
+    IfOk-map c.bring_at_each.result (λ x e. part_begins c.args.slots.now w c.requires.before c.made_by-env.result c.made_by-env.ensures c.requires.works.0 c.requires.works.1 found needed made are_needed c.record_all.new.recorded c.due_from_none.new.due.items c.bring_at_each.new.work.items recorded due
+    (e ∙ ap (λ l. w.work.items ++ items_from w.nodes.list.items l) c.deref-5.ensures.value)) c.bring_at_each.ensures

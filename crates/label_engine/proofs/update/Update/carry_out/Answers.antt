@@ -4,7 +4,7 @@ use Rattle.label_engine.proofs.update.Update.carry_out.Goals as goal
 
 pub put_all_in-requires : goal.put_all_in-requires
 put_all_in-requires c =
-    holds_picked c.args.slots.now c.args.self.now.slot c.args.self.now.nodes c.args.self.now.recorded c.args.self.now.due.items c.add_unions.new.due.items c.args.self.now.agenda c.args.item.now c.requires c.in_ok-add_unions.ensures
+    holds_picked c.args.slots.now c.args.self.now.slot c.args.self.now.nodes c.args.self.now.recorded c.args.self.now.due.items c.add_unions.new.due.items c.args.self.now.work.items c.args.self.now.agenda c.args.item.now c.requires c.in_ok-add_unions.ensures
 
 pub returns-in_err-add_unions-clause-survives : goal.returns-in_err-add_unions-clause-survives
 returns-in_err-add_unions-clause-survives c =
@@ -12,4 +12,4 @@ returns-in_err-add_unions-clause-survives c =
     record { agrees = s.agrees; same_slot = s.same_slot; added = s.added; recorded = s.recorded; newly = s.newly; met = s.met; once = s.once }
 
 pub add_unions-requires : goal.add_unions-requires
-add_unions-requires c = maker_fits c.args.slots.now c.args.self.now.slot c.args.self.now.nodes c.args.self.now.recorded c.args.self.now.due.items c.args.self.now.agenda c.args.item.now c.requires c.slots_fit.ensures
+add_unions-requires c = maker_fits c.args.slots.now c.args.self.now.slot c.args.self.now.nodes c.args.self.now.recorded c.args.self.now.due.items c.args.self.now.work.items c.args.self.now.agenda c.args.item.now c.requires c.slots_fit.ensures

@@ -6,6 +6,7 @@ abbrev pub invariant-picks : goal.invariant-picks
 invariant-picks g l = record {
   propagates : Propagates l.slots l.self;
   none_due : l.self.due.items ≡ [];
+  none_at_hand : l.self.work.items ≡ [];
   survives : Survives l.fn.self l.self;
 }
 

@@ -6,15 +6,15 @@ use Rattle.label_engine.specs.declared.update.Pending.{Pending}
 use Rattle.label_engine.specs.Update.{items_to}
 use Rattle.label_engine.proofs.Pieces.{IfOk-map}
 use Rattle.label_engine.proofs.Shelves.{items_near}
-use Rattle.label_engine.proofs.update.wait_at_all.Goals as goal
+use Rattle.label_engine.proofs.update.bring_all.Goals as goal
 
 pub returns : goal.returns
 returns c =
     let f : Fact = c.args.fact.now in
     let e : Env = c.args.env.now in
     let near : List Inferred = c.near-near.result.now in
-    let was : List Pending = c.args.agenda.now in
-    IfOk-map c.wait_at_uses-2.result
-    (λ x then. then ∙ (ap (λ l. l ++ items_to true f e near) c.in_ok-wait_at_uses.ensures
+    let was : List Pending = c.args.work.now.items in
+    IfOk-map c.bring_uses-2.result
+    (λ x then. then ∙ (ap (λ l. l ++ items_to true f e near) c.in_ok-bring_uses.ensures
     ∙ (append_assoc was (items_to false f e near) (items_to true f e near) ∙ ap (λ l. was ++ l) (items_near f e near c.args.recorded.now c.near-near.ensures.uses))))
-    c.wait_at_uses-2.ensures
+    c.bring_uses-2.ensures

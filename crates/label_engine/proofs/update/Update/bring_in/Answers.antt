@@ -1,0 +1,13 @@
+use Rattle.label_engine.proofs.Pieces.{survives_same}
+use Rattle.label_engine.proofs.Holding.{holds_brought}
+use Rattle.label_engine.proofs.update.Update.bring_in.Goals as goal
+
+pub work_off-requires-clause-propagates : goal.work_off-requires-clause-propagates
+work_off-requires-clause-propagates c =
+    rw c.in_ok-bring_all.ensures (holds_brought c.args.self.now.recorded c.args.arrival.now.fact c.args.arrival.now.env c.args.slots.now c.args.self.now.slot c.args.self.now.nodes c.args.self.now.due.items c.args.self.now.work.items c.args.self.now.agenda
+    c.requires.came)
+
+pub returns-in_err-bring_all-clause-survives : goal.returns-in_err-bring_all-clause-survives
+returns-in_err-bring_all-clause-survives c =
+    let s = survives_same c.args.self.now in
+    record { agrees = s.agrees; same_slot = s.same_slot; added = s.added; recorded = s.recorded; newly = s.newly; met = s.met; once = s.once }

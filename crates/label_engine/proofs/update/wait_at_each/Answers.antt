@@ -1,6 +1,0 @@
-use Rattle.label_engine.proofs.Assuming.{items_from-more}
-use Rattle.label_engine.proofs.update.wait_at_each.Goals as goal
-
-pub loop-inferred-preserved : goal.loop-inferred-preserved
-loop-inferred-preserved c =
-    items_from-more c.args.nodes.now.list.items c.args.found.now c.loop-inferred.inferred-index _ c.args.agenda.now c.loop-inferred.agenda c.wait_at_one.new.agenda c.loop-inferred-test.true c.loop-inferred.invariant c.in_ok-wait_at_one.ensures

@@ -1,6 +1,0 @@
-use Rattle.std.proofs.Common.{◌≡◌, ◌++◌, take}
-use Rattle.label_engine.specs.Update.{items_to}
-use Rattle.label_engine.proofs.update.wait_at_uses.Given as goal
-
-abbrev pub invariant-loop-inferred : goal.invariant-loop-inferred
-invariant-loop-inferred l = l.agenda ≡ l.initial.agenda ++ items_to l.clash l.fact l.env (take l.inferred-index l.recorded)
