@@ -10,10 +10,11 @@ use Rattle.std.proofs.lemmas.Option.{slice_get_within}
 use Rattle.std.proofs.Math.Seq.{get_or-append_seam}
 use Rattle.environment_sets.specs.declared.environment.Env.{Env}
 use Rattle.environment_sets.specs.Members.{members}
+use Rattle.environment_sets.specs.Sets.{◌⊆◌}
 use Rattle.environment_sets.specs.Lists.{IsIn}
 use Rattle.environment_sets.specs.Signatures.{signature}
 use Rattle.environment_sets.proofs.Membership.{slice_get-IsIn}
-use Rattle.antichains.specs.Signed.{blocks_of, AreShared, IsSigned, NoneInBlock}
+use Rattle.antichains.specs.Signed.{blocks_of, AreShared, IsSigned, NoneInBlock, NoneMayCover}
 use Rattle.antichains.specs.declared.signed_list.SignedList.{SignedList}
 use Rattle.antichains.proofs.Signing.{own_number, subset_needs}
 use Rattle.antichains.specs.declared.signed_list.TheConstants.{BLOCK}
@@ -149,15 +150,15 @@ module _ (P : Env → Type 0) (es : List Env) where
   pub none_from_last_block : (block : ℕ) → blocks_of (length es) ≤ block → NoneFromBlock block
   none_from_last_block block all k e past at holds = let low : k < length es = slice_get_within es k e at in absurd (omega (arith, low, past, all))
 
-  pub none_from_block_more : (block : ℕ) → 0 < block → NoneFromBlock block → ((k : ℕ) (e : Env) → k / BLOCK ≡ block - 1 → slice_get es k ≡ Some e → P e → ⊥) → NoneFromBlock (block - 1)
-  none_from_block_more block some none here k e past at holds =
-      elim (cases_lt (k / BLOCK) block) [
-        | inl low ↦ here k e (omega (arith, low, past)) at holds
+  pub none_from_block_back : (block end : ℕ) → NoneFromBlock end → ((b k : ℕ) (e : Env) → block ≤ b → b < end → k / BLOCK ≡ b → slice_get es k ≡ Some e → P e → ⊥) → NoneFromBlock block
+  none_from_block_back block end none here k e past at holds =
+      elim (cases_lt (k / BLOCK) end) [
+        | inl low ↦ here (k / BLOCK) k e past low refl at holds
         | inr high ↦ none k e high at holds
       ]
 
-  pub none_in_any_block : (block : ℕ) → block ≤ 0 → NoneFromBlock block → (e : Env) → IsIn es e → P e → ⊥
-  none_in_any_block block first none e there holds = let at : (k : ℕ) × (slice_get es k ≡ Some e) = slice_get-IsIn es e there in none at.0 e (omega (arith, first)) at.1 holds
+  pub none_in_any_block : NoneFromBlock 0 → (e : Env) → IsIn es e → P e → ⊥
+  none_in_any_block none e there holds = let at : (k : ℕ) × (slice_get es k ≡ Some e) = slice_get-IsIn es e there in none at.0 e (omega arith) at.1 holds
 
 -- what is no part of a signature stands for a block in which none is a subset
 pub not_in_block : (s : SignedList) (env : Env) (block : ℕ) → IsSigned s → (IsPart (get_or s.shared.items block 0) (signature env) → ⊥) → NoneInBlock block s.list.items (members env)
@@ -169,3 +170,17 @@ not_in_block s env block signed out k e in_block at within =
     let of_e : IsPart (get_or s.shared.items (k / BLOCK) 0) (signature e) = subst (λ (w : ℕ). IsPart (get_or s.shared.items (k / BLOCK) 0) w) own shared in
     let of_block : IsPart (get_or s.shared.items block 0) (signature e) = subst (λ (b : ℕ). IsPart (get_or s.shared.items b 0) (signature e)) in_block of_e in
     out (part_of_part (get_or s.shared.items block 0) (signature e) (signature env) of_block (subset_needs e env (signature e) (signature env) refl refl within))
+
+-- none is a subset from this block on: not in what was looked through, not in this one, and not in those between
+module _ (s : SignedList) (env : Env) (word block end : ℕ) (signed : IsSigned s) (is : word ≡ signature env) (passed : NoneFromBlock (λ e. members e ⊆ members env) s.list.items end) where
+  passed_over : (from b : ℕ) → NoneMayCover s.shared.items word from end → from ≤ b → b < end → NoneInBlock b s.list.items (members env)
+  passed_over from b none low high = not_in_block s env b signed (λ part. none b low high (subst (λ (w : ℕ). IsPart (get_or s.shared.items b 0) w) (sym is) part))
+
+  pub none_from_this : NoneMayCover s.shared.items word (block + 1) end → NoneInBlock block s.list.items (members env) → NoneFromBlock (λ e. members e ⊆ members env) s.list.items block
+  none_from_this none here = none_from_block_back (λ e. members e ⊆ members env) s.list.items block end passed (λ b k e low high in_block at within. elim (cases_eq b block) [
+    | inl same ↦ here k e (in_block ∙ same) at within
+    | inr other ↦ passed_over (block + 1) b none (omega (arith, low, other)) high k e in_block at within
+  ])
+
+  pub none_at_all : NoneMayCover s.shared.items word 0 end → NoneFromBlock (λ e. members e ⊆ members env) s.list.items 0
+  none_at_all none = none_from_block_back (λ e. members e ⊆ members env) s.list.items 0 end passed (λ b k e low high in_block at within. passed_over 0 b none low high k e in_block at within)

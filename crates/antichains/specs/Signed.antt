@@ -1,5 +1,5 @@
 -- Lists of environments with their signatures.
-use Rattle.std.specs.Prelude.{◌≡◌, ◌<◌, ◌+◌, ◌-◌, ◌/◌, ℕ, List, Some, bit_and, length, map, slice_get, slice_index, vec_len, vec_capacity}
+use Rattle.std.specs.Prelude.{◌≡◌, ◌<◌, ◌≤◌, ◌+◌, ◌-◌, ◌/◌, ℕ, List, Some, bit_and, length, map, slice_get, slice_index, vec_len, vec_capacity}
 use Rattle.environment_sets.specs.declared.environment.Env.{Env}
 use Rattle.environment_sets.specs.declared.environment.TheConstants.{SLOTS}
 use Rattle.environment_sets.specs.Sets.{Set, ◌⊆◌, size_below}
@@ -20,6 +20,20 @@ blocks_of count = (count + BLOCK - 1) / BLOCK
 pub record AreShared (signatures shared : List ℕ) : Type 0 where
   pub blocks : length shared ≡ blocks_of (length signatures)
   pub part : (k : ℕ) → k < length signatures → bit_and (slice_index shared (k / BLOCK)) (slice_index signatures k) ≡ slice_index shared (k / BLOCK)
+
+-- what stands for the block is part of the signature
+abbrev pub MayCover : List ℕ → ℕ → ℕ → Type 0
+MayCover shared signature block = bit_and (slice_index shared block) signature ≡ slice_index shared block
+
+-- of the blocks from the one on, none before the end has its part in the signature
+abbrev pub NoneMayCover : List ℕ → ℕ → ℕ → ℕ → Type 0
+NoneMayCover shared signature from end = (k : ℕ) → from ≤ k → k < end → MayCover shared signature k → ⊥
+
+-- the last block before the end that has its part in the signature
+pub record IsLastThatMayCover (shared : List ℕ) (signature end block : ℕ) : Type 0 where
+  pub before : block < end
+  pub may : MayCover shared signature block
+  pub last : NoneMayCover shared signature (block + 1) end
 
 -- no environment of the block is a subset of the set
 abbrev pub NoneInBlock : ℕ → List Env → Set ℕ → Type 0

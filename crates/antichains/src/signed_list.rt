@@ -5,7 +5,7 @@ ghost use Rattle.environment_sets.specs.Sets.{◌⊆◌, is_within};
 ghost use Rattle.environment_sets.specs.Members.{members, HasMember};
 ghost use Rattle.environment_sets.specs.Families.{IsCovered};
 ghost use Rattle.environment_sets.specs.Signatures.{signature as signature_of};
-ghost use Rattle.antichains.specs.Signed.{size_of, blocks_of, AreShared, IsSigned, HasRoom, HasSubsetAt, IsInsideAMember, NoneInBlock};
+ghost use Rattle.antichains.specs.Signed.{size_of, blocks_of, AreShared, IsSigned, HasRoom, HasSubsetAt, IsInsideAMember, IsLastThatMayCover, MayCover, NoneInBlock, NoneMayCover};
 
 use environment_sets::{Env, SLOTS};
 use std::alloc::{AllocError, Global};
@@ -98,12 +98,24 @@ impl SignedList {
         ensures { MatchOption result (IsCovered (HasMember self.now.list.items) (members env.now) → ⊥) (λ place. HasSubsetAt self.now.list.items place (members env.now)) }
     {
         let signature = env.signature();
-        for block in (0..self.shared.len()).rev() {
-            if !self.may_cover(block, signature) {
-                continue;
-            }
+        let mut end = self.shared.len();
+        while let Some(block) = self.last_that_may_cover(end, signature) {
             if let Some(place) = self.place_in_block(block, env, signature) {
                 return Some(place);
+            }
+            end = block;
+        }
+        None
+    }
+
+    // The last of the blocks before the end whose signatures all have a part in this one. Most blocks are passed over here.
+    fn last_that_may_cover(&self, end: usize, signature: u64) -> Option<usize>
+        requires { end ≤ length self.now.shared.items }
+        ensures { MatchOption result (NoneMayCover self.now.shared.items signature 0 end) (λ block. IsLastThatMayCover self.now.shared.items signature end block) }
+    {
+        for block in (0..end).rev() {
+            if self.may_cover(block, signature) {
+                return Some(block);
             }
         }
         None
@@ -112,7 +124,7 @@ impl SignedList {
     // Whether what all signatures of the block have is part of this one.
     fn may_cover(&self, block: usize, signature: u64) -> bool
         requires { block < length self.now.shared.items }
-        ensures { IsTrue result ↔ (bit_and (slice_index self.now.shared.items block) signature ≡ slice_index self.now.shared.items block) }
+        ensures { IsTrue result ↔ MayCover self.now.shared.items signature block }
     {
         let shared = self.shared[block];
         shared & signature == shared
