@@ -4,7 +4,7 @@ ghost use Rattle.std.specs.Prelude.{◌<◌, ◌+◌, IfOk};
 ghost use Rattle.environment_sets.specs.Lists.{IsIn};
 ghost use Rattle.circuit_model.specs.declared.model.Cell.{Cell};
 
-use crate::presents::session_of;
+use crate::presents::present_of;
 use circuit_model::{Cell, Cells, Chosen, Fact, Places, Present};
 use proof_check::{Derivation, Ending, Goal, Step, Steps, check};
 use std::alloc::{AllocError, Global};
@@ -203,11 +203,11 @@ fn says(
 #[test]
 fn two_words_with_one_thing_changed(rt: HostRuntime) -> Result<(), Fail> {
     let alloc = rt.alloc();
-    let session = session_of(alloc, &fs::read(&rt, "polybox.gde")?)?;
-    let all = everything(alloc, session.present())?;
+    let present = present_of(alloc, &fs::read(&rt, "polybox.gde")?)?;
+    let all = everything(alloc, &present)?;
     let steps = steps_to_two_words(alloc)?;
     let asked = Asked {
-        present: session.present(),
+        present: &present,
         all: &all,
         ending: two_words(),
         goal: Goal::Clash,
@@ -228,11 +228,11 @@ fn two_words_with_one_thing_changed(rt: HostRuntime) -> Result<(), Fail> {
 #[test]
 fn a_refutation_with_steps_exchanged(rt: HostRuntime) -> Result<(), Fail> {
     let alloc = rt.alloc();
-    let session = session_of(alloc, &fs::read(&rt, "polybox.gde")?)?;
-    let all = everything(alloc, session.present())?;
+    let present = present_of(alloc, &fs::read(&rt, "polybox.gde")?)?;
+    let all = everything(alloc, &present)?;
     let steps = steps_to_a_refutation(alloc)?;
     let asked = Asked {
-        present: session.present(),
+        present: &present,
         all: &all,
         ending: refutation(),
         goal: Goal::Clash,
@@ -251,12 +251,12 @@ fn a_refutation_with_steps_exchanged(rt: HostRuntime) -> Result<(), Fail> {
 #[test]
 fn a_value_is_shown(rt: HostRuntime) -> Result<(), Fail> {
     let alloc = rt.alloc();
-    let session = session_of(alloc, &fs::read(&rt, "polybox.gde")?)?;
-    let all = everything(alloc, session.present())?;
+    let present = present_of(alloc, &fs::read(&rt, "polybox.gde")?)?;
+    let all = everything(alloc, &present)?;
     let steps = steps_to_a_refutation(alloc)?;
     for value in [4, 5] {
         let asked = Asked {
-            present: session.present(),
+            present: &present,
             all: &all,
             ending: Ending::Holds,
             goal: Goal::Value(fact(5, value)),

@@ -1,6 +1,6 @@
 // The plain answers of known circuits, worked out by hand.
 
-use crate::presents::session_of;
+use crate::presents::present_of;
 use circuit_model::{Cell, Fact, Present};
 use plain_answers::{Environment, conflicts, diagnoses, label, nogoods};
 use std::alloc::{AllocError, Global};
@@ -102,8 +102,8 @@ fn is_listed(all: &[Environment], wanted: &Environment) -> bool {
 #[test]
 fn rows(rt: HostRuntime) -> Result<(), Fail> {
     for (i, (name, question, count, parts, nets)) in ROWS.iter().enumerate() {
-        let session = session_of(rt.alloc(), &fs::read(&rt, *name)?)?;
-        let found = answer(rt.alloc(), session.present(), *question)?;
+        let present = present_of(rt.alloc(), &fs::read(&rt, *name)?)?;
+        let found = answer(rt.alloc(), &present, *question)?;
         assert!(rt; found.len() == *count, "row {i}");
         let wanted = environment(*parts, *nets);
         assert!(rt; *count == 0 || is_listed(&found, &wanted), "row {i}");

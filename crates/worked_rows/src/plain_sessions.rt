@@ -1,7 +1,7 @@
 // What a session answers to `diagnose`, `first` and `probe`, against the plain answers.
 
 use crate::plain_probe::{Best, best_probe, cost_of};
-use crate::presents::session_of;
+use crate::presents::present_of;
 use crate::running::{NEVER, lines_ended, ran};
 use bench_cli::Status;
 use circuit_model::Present;
@@ -92,8 +92,12 @@ const FRONT: usize = 2;
 
 // The replies to the lines of a circuit, to `diagnose`, to `first 2` and to `probe`.
 fn expected(alloc: Global, lines: &[u8]) -> Result<Vec<u8>, Fail> {
-    let session = session_of(alloc, lines)?;
-    let present = session.present();
+    let present = present_of(alloc, lines)?;
+    replies_for(alloc, lines, &present)
+}
+
+// The same, where the lines lead to the present.
+fn replies_for(alloc: Global, lines: &[u8], present: &Present) -> Result<Vec<u8>, Fail> {
     let found = diagnoses(alloc, present)?;
     let rows = listed(alloc, present, &found)?;
     let mut replies = Vec::new(alloc);
