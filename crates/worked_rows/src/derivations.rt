@@ -9,6 +9,7 @@ use circuit_model::{Cell, Cells, Chosen, Fact, Places, Present};
 use proof_check::{Derivation, Ending, Goal, Step, Steps, check};
 use std::alloc::{AllocError, Global};
 use std::fs;
+use std::process::Abort;
 use std::test::Fail;
 
 fn fact(net: u16, value: u64) -> Fact {
@@ -200,6 +201,20 @@ fn says(
     Ok(check(&derivation, asked.present, asked.all, asked.goal))
 }
 
+// Each change by its number is judged as it says.
+fn judge_changes(
+    rt: &impl Abort,
+    alloc: Global,
+    steps: &[Step],
+    asked: &Asked<'_>,
+) -> Result<(), Fail> {
+    for number in 0..28 {
+        let (changed, judged) = change_at(number);
+        assert!(rt; says(alloc, steps, changed, asked)? == judged, "{number}");
+    }
+    Ok(())
+}
+
 #[test]
 fn two_words_with_one_thing_changed(rt: HostRuntime) -> Result<(), Fail> {
     let alloc = rt.alloc();
@@ -212,10 +227,7 @@ fn two_words_with_one_thing_changed(rt: HostRuntime) -> Result<(), Fail> {
         ending: two_words(),
         goal: Goal::Clash,
     };
-    for number in 0..28 {
-        let (changed, judged) = change_at(number);
-        assert!(rt; says(alloc, &steps, changed, &asked)? == judged, "{number}");
-    }
+    judge_changes(&rt, alloc, &steps, &asked)?;
     let value = Asked {
         goal: Goal::Value(fact(6, 4)),
         ..asked
@@ -225,6 +237,22 @@ fn two_words_with_one_thing_changed(rt: HostRuntime) -> Result<(), Fail> {
 }
 
 // Of these steps X=4 comes last, and right after Y=6, which it is inferred from.
+fn judge_exchanges(
+    rt: &impl Abort,
+    alloc: Global,
+    steps: &[Step],
+    asked: &Asked<'_>,
+) -> Result<(), Fail> {
+    for place in 1..6 {
+        let changed = Changed::Exchanged(place - 1, place);
+        assert!(rt;
+            says(alloc, steps, changed, asked)? == (place != 5),
+            "{place}"
+        );
+    }
+    Ok(())
+}
+
 #[test]
 fn a_refutation_with_steps_exchanged(rt: HostRuntime) -> Result<(), Fail> {
     let alloc = rt.alloc();
@@ -237,34 +265,35 @@ fn a_refutation_with_steps_exchanged(rt: HostRuntime) -> Result<(), Fail> {
         ending: refutation(),
         goal: Goal::Clash,
     };
-    for place in 1..6 {
-        let changed = Changed::Exchanged(place - 1, place);
-        assert!(rt;
-            says(alloc, &steps, changed, &asked)? == (place != 5),
-            "{place}"
-        );
+    judge_exchanges(&rt, alloc, &steps, &asked)
+}
+
+// The last of the steps to a refutation shows X=4, and no other word.
+fn judge_values(
+    rt: &impl Abort,
+    alloc: Global,
+    steps: &[Step],
+    asked: &Asked<'_>,
+) -> Result<(), Fail> {
+    for value in [4, 5] {
+        let goal = Goal::Value(fact(5, value));
+        let shown = says(alloc, steps, Changed::Nothing, &Asked { goal, ..*asked })?;
+        assert!(rt; shown == (value == 4), "{value}");
     }
     Ok(())
 }
 
-// The last of the steps to a refutation shows X=4, and no other word.
 #[test]
 fn a_value_is_shown(rt: HostRuntime) -> Result<(), Fail> {
     let alloc = rt.alloc();
     let present = present_of(alloc, &fs::read(&rt, "polybox.gde")?)?;
     let all = everything(alloc, &present)?;
     let steps = steps_to_a_refutation(alloc)?;
-    for value in [4, 5] {
-        let asked = Asked {
-            present: &present,
-            all: &all,
-            ending: Ending::Holds,
-            goal: Goal::Value(fact(5, value)),
-        };
-        assert!(rt;
-            says(alloc, &steps, Changed::Nothing, &asked)? == (value == 4),
-            "{value}"
-        );
-    }
-    Ok(())
+    let asked = Asked {
+        present: &present,
+        all: &all,
+        ending: Ending::Holds,
+        goal: Goal::Clash,
+    };
+    judge_values(&rt, alloc, &steps, &asked)
 }
