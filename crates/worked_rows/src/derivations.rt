@@ -201,33 +201,24 @@ fn says(
     Ok(check(&derivation, asked.present, asked.all, asked.goal))
 }
 
-// Each change by its number is judged as it says.
-fn judge_changes(
+// The steps to two words with each change by its number; and no word is shown where the steps end so.
+fn two_words_with_one_thing_changed(
     rt: &impl Abort,
     alloc: Global,
-    steps: &[Step],
-    asked: &Asked<'_>,
+    present: &Present,
+    all: &Chosen,
 ) -> Result<(), Fail> {
-    for number in 0..28 {
-        let (changed, judged) = change_at(number);
-        assert!(rt; says(alloc, steps, changed, asked)? == judged, "{number}");
-    }
-    Ok(())
-}
-
-#[test]
-fn two_words_with_one_thing_changed(rt: HostRuntime) -> Result<(), Fail> {
-    let alloc = rt.alloc();
-    let present = present_of(alloc, &fs::read(&rt, "polybox.gde")?)?;
-    let all = everything(alloc, &present)?;
     let steps = steps_to_two_words(alloc)?;
     let asked = Asked {
-        present: &present,
-        all: &all,
+        present,
+        all,
         ending: two_words(),
         goal: Goal::Clash,
     };
-    judge_changes(&rt, alloc, &steps, &asked)?;
+    for number in 0..28 {
+        let (changed, judged) = change_at(number);
+        assert!(rt; says(alloc, &steps, changed, &asked)? == judged, "{number}");
+    }
     let value = Asked {
         goal: Goal::Value(fact(6, 4)),
         ..asked
@@ -237,63 +228,58 @@ fn two_words_with_one_thing_changed(rt: HostRuntime) -> Result<(), Fail> {
 }
 
 // Of these steps X=4 comes last, and right after Y=6, which it is inferred from.
-fn judge_exchanges(
+fn a_refutation_with_steps_exchanged(
     rt: &impl Abort,
     alloc: Global,
-    steps: &[Step],
-    asked: &Asked<'_>,
+    present: &Present,
+    all: &Chosen,
 ) -> Result<(), Fail> {
+    let steps = steps_to_a_refutation(alloc)?;
+    let asked = Asked {
+        present,
+        all,
+        ending: refutation(),
+        goal: Goal::Clash,
+    };
     for place in 1..6 {
         let changed = Changed::Exchanged(place - 1, place);
         assert!(rt;
-            says(alloc, steps, changed, asked)? == (place != 5),
+            says(alloc, &steps, changed, &asked)? == (place != 5),
             "{place}"
         );
     }
     Ok(())
 }
 
-#[test]
-fn a_refutation_with_steps_exchanged(rt: HostRuntime) -> Result<(), Fail> {
-    let alloc = rt.alloc();
-    let present = present_of(alloc, &fs::read(&rt, "polybox.gde")?)?;
-    let all = everything(alloc, &present)?;
-    let steps = steps_to_a_refutation(alloc)?;
-    let asked = Asked {
-        present: &present,
-        all: &all,
-        ending: refutation(),
-        goal: Goal::Clash,
-    };
-    judge_exchanges(&rt, alloc, &steps, &asked)
-}
-
 // The last of the steps to a refutation shows X=4, and no other word.
-fn judge_values(
+fn a_value_is_shown(
     rt: &impl Abort,
     alloc: Global,
-    steps: &[Step],
-    asked: &Asked<'_>,
+    present: &Present,
+    all: &Chosen,
 ) -> Result<(), Fail> {
+    let steps = steps_to_a_refutation(alloc)?;
     for value in [4, 5] {
-        let goal = Goal::Value(fact(5, value));
-        let shown = says(alloc, steps, Changed::Nothing, &Asked { goal, ..*asked })?;
-        assert!(rt; shown == (value == 4), "{value}");
+        let asked = Asked {
+            present,
+            all,
+            ending: Ending::Holds,
+            goal: Goal::Value(fact(5, value)),
+        };
+        assert!(rt;
+            says(alloc, &steps, Changed::Nothing, &asked)? == (value == 4),
+            "{value}"
+        );
     }
     Ok(())
 }
 
 #[test]
-fn a_value_is_shown(rt: HostRuntime) -> Result<(), Fail> {
+fn derivations_with_one_thing_changed(rt: HostRuntime) -> Result<(), Fail> {
     let alloc = rt.alloc();
     let present = present_of(alloc, &fs::read(&rt, "polybox.gde")?)?;
     let all = everything(alloc, &present)?;
-    let steps = steps_to_a_refutation(alloc)?;
-    let asked = Asked {
-        present: &present,
-        all: &all,
-        ending: Ending::Holds,
-        goal: Goal::Clash,
-    };
-    judge_values(&rt, alloc, &steps, &asked)
+    two_words_with_one_thing_changed(&rt, alloc, &present, &all)?;
+    a_refutation_with_steps_exchanged(&rt, alloc, &present, &all)?;
+    a_value_is_shown(&rt, alloc, &present, &all)
 }
