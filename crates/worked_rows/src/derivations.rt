@@ -4,11 +4,11 @@ ghost use Rattle.std.specs.Prelude.{◌<◌, ◌+◌, IfOk};
 ghost use Rattle.environment_sets.specs.Lists.{IsIn};
 ghost use Rattle.circuit_model.specs.declared.model.Cell.{Cell};
 
+use crate::circuits::Circuit;
 use crate::presents::present_of;
 use circuit_model::{Cell, Cells, Chosen, Fact, Places, Present};
 use proof_check::{Derivation, Ending, Goal, Step, Steps, check};
 use std::alloc::{AllocError, Global};
-use std::fs;
 use std::process::Abort;
 use std::test::Fail;
 
@@ -277,7 +277,7 @@ fn a_value_is_shown(
 #[test]
 fn derivations_with_one_thing_changed(rt: HostRuntime) -> Result<(), Fail> {
     let alloc = rt.alloc();
-    let present = present_of(alloc, &fs::read(&rt, "polybox.gde")?)?;
+    let present = present_of(alloc, Circuit::Polybox.lines())?;
     let all = everything(alloc, &present)?;
     two_words_with_one_thing_changed(&rt, alloc, &present, &all)?;
     a_refutation_with_steps_exchanged(&rt, alloc, &present, &all)?;

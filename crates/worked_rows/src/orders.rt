@@ -1,19 +1,19 @@
 // Sessions whose labels are worked out in several orders, one of them of one's own.
 ghost use Rattle.std.specs.Prelude.{◌≤◌, ◌<◌};
 
+use crate::circuits::Circuit;
 use crate::running::lines_ended;
 use bench_cli::run;
 use bench_io::{MemorySink, MemorySource};
 use propagation_agenda::{Newest, Oldest, Picker, Seeded};
 use std::alloc::Global;
-use std::fs;
 use std::test::Fail;
 
 // The lines of the circuits, and of what goes on, goes back and asks, so many times.
-fn session(alloc: Global, circuits: &[u8], mixed: &[u8], times: usize) -> Result<Vec<u8>, Fail> {
-    let mut text = Vec::from_slice(alloc, circuits)?;
+fn session(alloc: Global, times: usize) -> Result<Vec<u8>, Fail> {
+    let mut text = Vec::from_slice(alloc, Circuit::Orders.lines())?;
     for _time in 0..times {
-        text.extend_from_slice(mixed)?;
+        text.extend_from_slice(Circuit::Mixed.lines())?;
     }
     Ok(text)
 }
@@ -57,9 +57,7 @@ fn is_written<P: Picker>(
 #[test]
 fn in_every_order(rt: HostRuntime) -> Result<(), Fail> {
     let alloc = rt.alloc();
-    let circuits = fs::read(&rt, "orders_circuits.gde")?;
-    let mixed = fs::read(&rt, "orders_mixed.gde")?;
-    let text = session(alloc, &circuits, &mixed, 8)?;
+    let text = session(alloc, 8)?;
     let oldest = picked(alloc, &mut Oldest, &text)?;
     assert!(rt; lines_ended(oldest.held()) > 300);
     assert!(rt; is_written(alloc, &mut Newest, &text, oldest.held())?);

@@ -1,10 +1,10 @@
 // The plain answers of known circuits, worked out by hand.
 
+use crate::circuits::Circuit;
 use crate::presents::present_of;
 use circuit_model::{Cell, Fact, Present};
 use plain_answers::{Environment, conflicts, diagnoses, label, nogoods};
 use std::alloc::{AllocError, Global};
-use std::fs;
 use std::test::Fail;
 
 // What is asked of a present. A label is that of a word at a net, by its place, at a cycle.
@@ -18,47 +18,53 @@ enum Question {
 
 // A circuit, a question, how many environments the answer has, and one of them: its components, and its nets measured at the
 // first cycle, each a bit by its place.
-type Row = (&'static str, Question, usize, u16, u16);
+type Row = (Circuit, Question, usize, u16, u16);
 
 const ROWS: [Row; 20] = [
     (
-        "polybox.gde",
+        Circuit::Polybox,
         Question::Label(5, 0, 4),
         2,
         0b1010,
         0b100001010,
     ),
     (
-        "polybox.gde",
+        Circuit::Polybox,
         Question::Label(5, 0, 4),
         2,
         0b11100,
         0b1100010100,
     ),
-    ("polybox.gde", Question::Label(5, 0, 6), 2, 0b1, 0b101),
+    (Circuit::Polybox, Question::Label(5, 0, 6), 2, 0b1, 0b101),
     (
-        "polybox.gde",
+        Circuit::Polybox,
         Question::Label(5, 0, 6),
         2,
         0b10111,
         0b1000011011,
     ),
-    ("polybox.gde", Question::Conflicts, 2, 0b1011, 0b0),
-    ("polybox.gde", Question::Conflicts, 2, 0b11101, 0b0),
-    ("polybox.gde", Question::Diagnoses, 4, 0b1, 0b0),
-    ("polybox.gde", Question::Diagnoses, 4, 0b1000, 0b0),
-    ("polybox.gde", Question::Diagnoses, 4, 0b110, 0b0),
-    ("polybox.gde", Question::Diagnoses, 4, 0b10010, 0b0),
-    ("zero_and_five.gde", Question::Conflicts, 1, 0b1, 0b0),
-    ("zero.gde", Question::Label(2, 0, 0), 1, 0b1, 0b1),
-    ("zero.gde", Question::Label(1, 0, 0), 0, 0b0, 0b0),
-    ("one_net_twice.gde", Question::Label(1, 0, 0), 1, 0b1, 0b1),
-    ("two_constants.gde", Question::Label(0, 0, 2), 1, 0b10, 0b0),
-    ("two_constants.gde", Question::Nogoods, 1, 0b11, 0b0),
-    ("two_constants.gde", Question::Conflicts, 1, 0b11, 0b0),
-    ("register.gde", Question::Label(1, 0, 0), 1, 0b1, 0b0),
-    ("register.gde", Question::Label(1, 1, 5), 1, 0b1, 0b1),
-    ("register.gde", Question::Diagnoses, 1, 0b1, 0b0),
+    (Circuit::Polybox, Question::Conflicts, 2, 0b1011, 0b0),
+    (Circuit::Polybox, Question::Conflicts, 2, 0b11101, 0b0),
+    (Circuit::Polybox, Question::Diagnoses, 4, 0b1, 0b0),
+    (Circuit::Polybox, Question::Diagnoses, 4, 0b1000, 0b0),
+    (Circuit::Polybox, Question::Diagnoses, 4, 0b110, 0b0),
+    (Circuit::Polybox, Question::Diagnoses, 4, 0b10010, 0b0),
+    (Circuit::ZeroAndFive, Question::Conflicts, 1, 0b1, 0b0),
+    (Circuit::Zero, Question::Label(2, 0, 0), 1, 0b1, 0b1),
+    (Circuit::Zero, Question::Label(1, 0, 0), 0, 0b0, 0b0),
+    (Circuit::OneNetTwice, Question::Label(1, 0, 0), 1, 0b1, 0b1),
+    (
+        Circuit::TwoConstants,
+        Question::Label(0, 0, 2),
+        1,
+        0b10,
+        0b0,
+    ),
+    (Circuit::TwoConstants, Question::Nogoods, 1, 0b11, 0b0),
+    (Circuit::TwoConstants, Question::Conflicts, 1, 0b11, 0b0),
+    (Circuit::Register, Question::Label(1, 0, 0), 1, 0b1, 0b0),
+    (Circuit::Register, Question::Label(1, 1, 5), 1, 0b1, 0b1),
+    (Circuit::Register, Question::Diagnoses, 1, 0b1, 0b0),
 ];
 
 fn answer(
@@ -101,8 +107,8 @@ fn is_listed(all: &[Environment], wanted: &Environment) -> bool {
 
 #[test]
 fn rows(rt: HostRuntime) -> Result<(), Fail> {
-    for (i, (name, question, count, parts, nets)) in ROWS.iter().enumerate() {
-        let present = present_of(rt.alloc(), &fs::read(&rt, *name)?)?;
+    for (i, (circuit, question, count, parts, nets)) in ROWS.iter().enumerate() {
+        let present = present_of(rt.alloc(), circuit.lines())?;
         let found = answer(rt.alloc(), &present, *question)?;
         assert!(rt; found.len() == *count, "row {i}");
         let wanted = environment(*parts, *nets);

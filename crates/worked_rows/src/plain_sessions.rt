@@ -1,5 +1,6 @@
 // What a session answers to `diagnose`, `first` and `probe`, against the plain answers.
 
+use crate::circuits::Circuit;
 use crate::plain_probe::{Best, best_probe, cost_of};
 use crate::presents::present_of;
 use crate::running::{NEVER, lines_ended, ran};
@@ -7,20 +8,19 @@ use bench_cli::Status;
 use circuit_model::Present;
 use plain_answers::{Environment, diagnoses};
 use std::alloc::{AllocError, Global};
-use std::fs;
 use std::test::Fail;
 
 // Circuits with gates, registers and costs, in most of which something was seen that does not fit.
-const CIRCUITS: [&str; 9] = [
-    "full_adder.gde",
-    "counter.gde",
-    "six_gates.gde",
-    "polybox.gde",
-    "polybox_costs.gde",
-    "two_registers.gde",
-    "running_sum.gde",
-    "sound.gde",
-    "chain.gde",
+const CIRCUITS: [Circuit; 9] = [
+    Circuit::FullAdder,
+    Circuit::Counter,
+    Circuit::SixGates,
+    Circuit::Polybox,
+    Circuit::PolyboxCosts,
+    Circuit::TwoRegisters,
+    Circuit::RunningSum,
+    Circuit::Sound,
+    Circuit::Chain,
 ];
 
 // Its components, by their places.
@@ -101,8 +101,7 @@ fn replies_for(alloc: Global, lines: &[u8], present: &Present) -> Result<Vec<u8>
     let found = diagnoses(alloc, present)?;
     let rows = listed(alloc, present, &found)?;
     let mut replies = Vec::new(alloc);
-    // The first line is a comment, which has no reply.
-    for _line in 1..lines_ended(lines) {
+    for _line in 0..lines_ended(lines) {
         replies.extend_from_slice(b"ok\n")?;
     }
     write_rows(&mut replies, present, &rows)?;
@@ -124,10 +123,10 @@ fn is_answered(alloc: Global, lines: &[u8], replies: &[u8]) -> Result<bool, Fail
 
 #[test]
 fn sessions_give_the_plain_answers(rt: HostRuntime) -> Result<(), Fail> {
-    for name in CIRCUITS {
-        let lines = fs::read(&rt, name)?;
-        let replies = expected(rt.alloc(), &lines)?;
-        assert!(rt; is_answered(rt.alloc(), &lines, &replies)?, "{name}");
+    for (i, circuit) in CIRCUITS.iter().enumerate() {
+        let lines = circuit.lines();
+        let replies = expected(rt.alloc(), lines)?;
+        assert!(rt; is_answered(rt.alloc(), lines, &replies)?, "circuit {i}");
     }
     Ok(())
 }
