@@ -165,17 +165,35 @@ fn with_change(alloc: Global, steps: &[Step], changed: Changed) -> Result<Steps,
     Ok(other)
 }
 
-// A change by its number, and whether the steps to two words still show the clash: no step may be left out; any two
-// neighbours may be exchanged, but Y=4 may not come before X=6; and the words at the ports X and Z of the adder force the
-// third, but told with the number of other ports they show nothing.
-fn change_at(number: usize) -> (Changed, bool) {
-    match number {
-        0..=8 => (Changed::LeftOut(number), false),
-        9..=16 => (Changed::Exchanged(number - 9, number - 8), true),
-        17 => (Changed::Exchanged(5, 7), false),
-        18..=26 => (Changed::OtherPorts(7, (number - 18) as u8), number == 23),
-        _ => (Changed::Nothing, true),
+// Of the steps to two words, which rest on which: the second of each pair uses what the first shows.
+const RESTS: [(usize, usize); 8] = [
+    (0, 5),
+    (1, 5),
+    (1, 6),
+    (2, 6),
+    (3, 7),
+    (5, 7),
+    (4, 8),
+    (6, 8),
+];
+
+// By which ports those of them infer that do.
+const PORTS: [(usize, u8); 4] = [(5, 3), (6, 3), (7, 5), (8, 6)];
+
+// Where a step stands with the two exchanged.
+fn moved(step: usize, one: usize, other: usize) -> usize {
+    if step == one {
+        other
+    } else if step == other {
+        one
+    } else {
+        step
     }
+}
+
+// Whether each step still comes after those that it rests on, with the two exchanged.
+fn is_in_order(one: usize, other: usize) -> bool {
+    RESTS.iter().all(|(earlier, later)| moved(*earlier, one, other) < moved(*later, one, other))
 }
 
 // What the checker is given besides the steps: a present, all of it, an ending and a goal.
@@ -201,7 +219,75 @@ fn says(
     Ok(check(&derivation, asked.present, asked.all, asked.goal))
 }
 
-// The steps to two words with each change by its number; and no word is shown where the steps end so.
+// No step may be left out.
+fn each_is_left_out(
+    rt: &impl Abort,
+    alloc: Global,
+    steps: &[Step],
+    asked: &Asked<'_>,
+) -> Result<(), Fail> {
+    for place in 0..steps.len() {
+        let shown = says(alloc, steps, Changed::LeftOut(place), asked)?;
+        assert!(rt; !shown, "{place}");
+    }
+    Ok(())
+}
+
+// A step may be exchanged with one before it exactly where all still come after those that they rest on.
+fn one_is_exchanged(
+    rt: &impl Abort,
+    alloc: Global,
+    steps: &[Step],
+    asked: &Asked<'_>,
+    one: usize,
+) -> Result<(), Fail> {
+    for other in 0..one {
+        let shown = says(alloc, steps, Changed::Exchanged(other, one), asked)?;
+        assert!(rt; shown == is_in_order(other, one), "{other} and {one}");
+    }
+    Ok(())
+}
+
+fn each_two_are_exchanged(
+    rt: &impl Abort,
+    alloc: Global,
+    steps: &[Step],
+    asked: &Asked<'_>,
+) -> Result<(), Fail> {
+    for one in 0..steps.len() {
+        one_is_exchanged(rt, alloc, steps, asked, one)?;
+    }
+    Ok(())
+}
+
+// A step that is told with other ports than those that it infers by shows nothing.
+fn other_ports_are_told(
+    rt: &impl Abort,
+    alloc: Global,
+    steps: &[Step],
+    asked: &Asked<'_>,
+    (place, ports): (usize, u8),
+) -> Result<(), Fail> {
+    for told in 0..9 {
+        let shown = says(alloc, steps, Changed::OtherPorts(place, told), asked)?;
+        assert!(rt; shown == (told == ports), "{place} by {told}");
+    }
+    Ok(())
+}
+
+fn each_is_told_with_other_ports(
+    rt: &impl Abort,
+    alloc: Global,
+    steps: &[Step],
+    asked: &Asked<'_>,
+) -> Result<(), Fail> {
+    for step in PORTS {
+        other_ports_are_told(rt, alloc, steps, asked, step)?;
+    }
+    Ok(())
+}
+
+// The steps to two words, and each with one thing changed; and no word is shown where the steps end so.
 fn two_words_with_one_thing_changed(
     rt: &impl Abort,
     alloc: Global,
@@ -215,10 +301,10 @@ fn two_words_with_one_thing_changed(
         ending: two_words(),
         goal: Goal::Clash,
     };
-    for number in 0..28 {
-        let (changed, judged) = change_at(number);
-        assert!(rt; says(alloc, &steps, changed, &asked)? == judged, "{number}");
-    }
+    assert!(rt; says(alloc, &steps, Changed::Nothing, &asked)?);
+    each_is_left_out(rt, alloc, &steps, &asked)?;
+    each_two_are_exchanged(rt, alloc, &steps, &asked)?;
+    each_is_told_with_other_ports(rt, alloc, &steps, &asked)?;
     let value = Asked {
         goal: Goal::Value(fact(6, 4)),
         ..asked
