@@ -121,5 +121,3 @@ none_dropped test (x ∷ xs) many =
     ] many
 
 -- a test of equal numbers that holds
-pub from_test : (a b : ℕ) → IsTrue (a == b) → a ≡ b
-from_test a b h = grind (arith, nat_tests)

@@ -1,5 +1,6 @@
 -- Runs that grow by one line.
-use Rattle.std.proofs.Common.{◌≡◌, ℕ, Bool, true, false, ◌||◌, List, [], ◌∷◌, ◌++◌, refl, sym, ◌∙◌, ap, subst, append_assoc}
+use Rattle.std.proofs.Common.{◌≡◌, ℕ, ◌||◌, List, [], ◌∷◌, ◌++◌, refl, sym, ◌∙◌, ap, subst, append_assoc}
+use Rattle.environment_sets.proofs.Membership.{or-end, or-assoc}
 use Rattle.session_undo.specs.Replies.{text_of}
 use Rattle.bench_cli.specs.Replies.{Exchange, transcript, lines_of_exchanges, has_refused, has_no_memory, is_refused, is_no_memory}
 use Rattle.session_undo.specs.Presents.{State}
@@ -21,14 +22,6 @@ transcript-more (x ∷ es) e = ap (λ t. text_of x.reply ++ t) (transcript-more 
 pub lines-more : (es : List Exchange) (e : Exchange) → lines_of_exchanges (es ++ e ∷ []) ≡ lines_of_exchanges es ++ e.line ∷ []
 lines-more [] e = refl
 lines-more (x ∷ es) e = ap (λ t. x.line ∷ t) (lines-more es e)
-
-or-end : (a : Bool) → (a || false) ≡ a
-or-end true = refl
-or-end false = refl
-
-or-assoc : (a b c : Bool) → (a || (b || c)) ≡ ((a || b) || c)
-or-assoc true b c = refl
-or-assoc false b c = refl
 
 pub refused-more : (es : List Exchange) (e : Exchange) → has_refused (es ++ e ∷ []) ≡ (has_refused es || is_refused e.reply)
 refused-more [] e = or-end (is_refused e.reply)

@@ -28,7 +28,7 @@ use Rattle.circuit_model.specs.Opening.{inners_of, opened_name, opened_component
 use Rattle.circuit_model.proofs.Monotony.{Clashes-along}
 use Rattle.circuit_model.proofs.Moves.{All-read}
 use Rattle.circuit_model.proofs.Openings.{All-IsIn, opened_part, block_lawful}
-use Rattle.circuit_model.proofs.Presents.{IsIn-remove, free_is_new}
+use Rattle.circuit_model.proofs.Presents.{count_parts, IsIn-remove, free_is_new, other_bytes}
 use Rattle.circuit_model.proofs.Diagnoses.{AreRefuted-more}
 use Rattle.circuit_model.proofs.Reiter.{not_without_least}
 use Rattle.block_tree.specs.Openings.{OpenedClashesLift}
@@ -56,9 +56,6 @@ apart_at f (z ∷ xs) d (suc j) (suc k) x y a b e = ap suc (apart_at f xs d.1 j 
 right_distinct : {X : Type 0} (xs ys : List X) → AreDistinct (xs ++ ys) → AreDistinct ys
 right_distinct [] ys h = h
 right_distinct (x ∷ xs) ys h = right_distinct xs ys h.1
-
-not_same : (a b : List ℕ) → (a ≡ b → ⊥) → bytes_eq a b ≡ false
-not_same a b differ = elim (bytes_eq a b) as (λ t. bytes_eq a b ≡ t → t ≡ false) [ true ↦ λ e. absurd (differ ((bytes_eq-Decides a b).0 e)) | false ↦ λ e. refl ] refl
 
 same_self : (a : List ℕ) → bytes_eq a a ≡ true
 same_self a = (bytes_eq-Decides a a).1 refl
@@ -110,7 +107,7 @@ module _ (s : PresentView) (lawful : IsLawful s) (place : ℕ) (c : Component) (
   other_stays k d other at chosen =
       let name : Component → List ℕ = λ p. p.name in
       let distinct : AreDistinct (map name s.parts) = right_distinct (map (λ (n : Net). n.name) s.nets) (map name s.parts) lawful.distinct in
-      let differ : bytes_eq d.name c.name ≡ false = not_same d.name c.name (λ e. other (apart_at name s.parts distinct k place d c at there e)) in
+      let differ : bytes_eq d.name c.name ≡ false = other_bytes d.name c.name (λ e. other (apart_at name s.parts distinct k place d c at there e)) in
       let new : (i : Inner) → IsIn (inners_of s (block_in c.kind)) i → IsTrue (bytes_eq d.name (opened_name c i)) → ⊥ = λ i inside same.
       let is_inner : IsIn (block_at s block).inners i = subst (λ (is : List Inner). IsIn is i) inners_are inside in
       free_is_new s (opened_name c i) (All-IsIn (λ i. named_in s (opened_name c i) ≡ None) (block_at s block).inners i free is_inner)
@@ -181,9 +178,6 @@ module _ (s : PresentView) (lawful : IsLawful s) (place : ℕ) (c : Component) (
 
 positions_below : (parts : List Component) (C : Set (List ℕ)) → IsBelow (length parts) (positions_of parts C)
 positions_below parts C k h = let r : (d : Component) × (slice_get parts k ≡ Some d) × IsTrue (C d.name) = passes-elim (λ (p : Component). C p.name) (slice_get parts k) h in slice_get_within parts k r.0 r.1
-
-count_parts : (s : PresentView) → length s.parts ≡ length (circuit_of s).parts
-count_parts s = sym (length-map s.parts (λ (p : Component). p.part))
 
 pub opened_clashes_lift : OpenedClashesLift
 opened_clashes_lift s part c block lawful h = record {

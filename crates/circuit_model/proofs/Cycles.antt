@@ -1,13 +1,13 @@
 -- The instances that a component stands for, one after the other; they are lawful.
 use Rattle.std.proofs.Common.{◌≡◌, ℕ, zero, suc, ◌+◌, ◌^◌, ◌<◌, ◌≤◌, List, [], ◌∷◌, ◌++◌, length, IsTrue, refl, sym, ap, ◌∙◌, arith, add-one, pow_pos}
-use Rattle.std.specs.Prelude.{◌==◌, ◌&&◌}
-use Rattle.std.proofs.lemmas.Bool.{and_parts, eqb-true, ltb-true}
+use Rattle.std.specs.Prelude.{slice_index}
+use Rattle.std.proofs.lemmas.Bool.{lt-ltb}
 use Rattle.std.proofs.lemmas.List.Elements.{All-nil, All-cons}
 use Rattle.circuit_model.specs.declared.model.Kind.{Kind}
 use Rattle.circuit_model.specs.declared.model.Kind.TheVariants.{Const, Reg, Block}
 use Rattle.circuit_model.specs.declared.model.Instance.{Instance}
-use Rattle.circuit_model.specs.Kinds.{primitive_of, keep_rule, are_widths, fits_value, instance_at, each_cycle, reset_instance, carry_instance, register, instances}
-use Rattle.circuit_model.specs.Lawful.{WidthRule, AllTheSame, LastTheSum, RoomFor, width_rule, KeepRule, AreLawfulWidths, IsLawfulInstance, AreLawful}
+use Rattle.circuit_model.specs.Kinds.{primitive_of, are_widths, fits_value, instance_at, each_cycle, reset_instance, carry_instance, register, instances}
+use Rattle.circuit_model.specs.Lawful.{width_rule, has_room, IsLawfulInstance, AreLawful}
 
 more_cycles : (at : ℕ → Instance) (c n : ℕ) → each_cycle at c (suc n) ≡ each_cycle at c n ++ at (c + n) ∷ []
 more_cycles at c zero = ap (λ k. at k ∷ []) (omega arith)
@@ -33,46 +33,26 @@ module _ (at : ℕ → Instance) (lawful : (k : ℕ) → IsLawfulInstance (at k)
   AreLawful-each_cycle c zero = All-nil IsLawfulInstance
   AreLawful-each_cycle c (suc n) = All-cons IsLawfulInstance (at c) (each_cycle at (suc c) n) (lawful c) (AreLawful-each_cycle (suc c) n)
 
-equal_widths : (a b z : ℕ) → IsTrue ((a == b) && (b == z)) → (a ≡ b) × (b ≡ z)
-equal_widths a b z h = let both = and_parts (a == b) (b == z) h in (eqb-true a b both.0, eqb-true b z both.1)
-
--- widths that keep a rule, and have room for the value where it is of one
-kept_rule : (rule : WidthRule) (a b z : ℕ) → IsTrue (keep_rule rule (a ∷ b ∷ z ∷ [])) → ((value : ℕ) → rule ≡ RoomFor value → value < 2 ^ a) → KeepRule rule (a ∷ b ∷ z ∷ [])
-kept_rule AllTheSame a b z h room = equal_widths a b z h
-kept_rule LastTheSum a b z h room = eqb-true z (a + b) h
-kept_rule (RoomFor value) a b z h room = room value refl
-
 -- the value of a constant fits
-room_for : (kind : Kind) (a b z : ℕ) → IsTrue (fits_value kind (a ∷ b ∷ z ∷ [])) → (value : ℕ) → width_rule (primitive_of kind) ≡ RoomFor value → value < 2 ^ a
-room_for (Const w) a b z v value e = let same : w ≡ value = cc in rw (← same) (ltb-true _ _ v)
-room_for (Block block) a b z v value e = let same : 0 ≡ value = cc in rw (← same) (pow_pos a)
-room_for kind a b z v value e = cc
+room_of : (kind : Kind) (widths : List ℕ) → IsTrue (fits_value kind widths) → IsTrue (has_room (width_rule (primitive_of kind)) widths)
+room_of (Const value) widths v = v
+room_of (Block block) widths v = lt-ltb 0 (2 ^ slice_index widths 0) (pow_pos (slice_index widths 0))
+room_of kind widths v = refl
 
--- widths that keep the kind's rule are lawful for its relation
-lawful_widths : (kind : Kind) (a b z : ℕ) → IsTrue (are_widths kind (a ∷ b ∷ z ∷ [])) → IsTrue (fits_value kind (a ∷ b ∷ z ∷ [])) → AreLawfulWidths (primitive_of kind) (a ∷ b ∷ z ∷ [])
-lawful_widths kind a b z h v = kept_rule (width_rule (primitive_of kind)) a b z h (room_for kind a b z v)
+lawful_at : (kind : Kind) (nets widths : List ℕ) (k : ℕ) → IsTrue (are_widths kind widths) → IsTrue (fits_value kind widths) → IsLawfulInstance (instance_at (primitive_of kind) nets widths k)
+lawful_at kind nets widths k h v = record { ports = refl; widths = (h, room_of kind widths v) }
 
-lawful_at : (kind : Kind) (nets : List ℕ) (a b z k : ℕ) → IsTrue (are_widths kind (a ∷ b ∷ z ∷ [])) → IsTrue (fits_value kind (a ∷ b ∷ z ∷ [])) → IsLawfulInstance (instance_at (primitive_of kind) nets (a ∷ b ∷ z ∷ []) k)
-lawful_at kind nets a b z k h v = record { ports = refl; widths = lawful_widths kind a b z h v }
+lawful_cycles : (kind : Kind) (nets widths : List ℕ) (n : ℕ) → IsTrue (are_widths kind widths) → IsTrue (fits_value kind widths) → AreLawful (each_cycle (instance_at (primitive_of kind) nets widths) 0 n)
+lawful_cycles kind nets widths n h v = AreLawful-each_cycle (instance_at (primitive_of kind) nets widths) (λ k. lawful_at kind nets widths k h v) 0 n
 
-lawful_cycles : (kind : Kind) (nets : List ℕ) (a b z n : ℕ) → IsTrue (are_widths kind (a ∷ b ∷ z ∷ [])) → IsTrue (fits_value kind (a ∷ b ∷ z ∷ [])) → AreLawful (each_cycle (instance_at (primitive_of kind) nets (a ∷ b ∷ z ∷ [])) 0 n)
-lawful_cycles kind nets a b z n h v = AreLawful-each_cycle (instance_at (primitive_of kind) nets (a ∷ b ∷ z ∷ [])) (λ k. lawful_at kind nets a b z k h v) 0 n
-
-lawful_register : (reset : ℕ) (nets : List ℕ) (a b z n : ℕ) → IsTrue (are_widths (Reg reset) (a ∷ b ∷ z ∷ [])) → IsTrue (fits_value (Reg reset) (a ∷ b ∷ z ∷ [])) → AreLawful (register reset nets (a ∷ b ∷ z ∷ []) n)
-lawful_register reset nets a b z zero h v = All-nil IsLawfulInstance
-lawful_register reset nets a b z (suc n) h v = let widths : List ℕ = a ∷ b ∷ z ∷ [] in
-    All-cons IsLawfulInstance (reset_instance reset nets widths) (each_cycle (carry_instance nets widths) 1 n) (record { ports = refl; widths = ltb-true _ _ v })
-    (AreLawful-each_cycle (carry_instance nets widths) (λ k. record { ports = refl; widths = equal_widths a b z h }) 1 n)
-
-lawful_of_three : (kind : Kind) (nets : List ℕ) (a b z n : ℕ) → IsTrue (are_widths kind (a ∷ b ∷ z ∷ [])) → IsTrue (fits_value kind (a ∷ b ∷ z ∷ [])) → AreLawful (instances kind nets (a ∷ b ∷ z ∷ []) n)
-lawful_of_three (Reg reset) nets a b z n h v = lawful_register reset nets a b z n h v
-lawful_of_three (Block block) nets a b z n h v = All-nil IsLawfulInstance
-lawful_of_three kind nets a b z n h v = lawful_cycles kind nets a b z n h v
+lawful_register : (reset : ℕ) (nets widths : List ℕ) (n : ℕ) → IsTrue (are_widths (Reg reset) widths) → IsTrue (fits_value (Reg reset) widths) → AreLawful (register reset nets widths n)
+lawful_register reset nets widths zero h v = All-nil IsLawfulInstance
+lawful_register reset nets widths (suc n) h v =
+    All-cons IsLawfulInstance (reset_instance reset nets widths) (each_cycle (carry_instance nets widths) 1 n) (record { ports = refl; widths = (refl, v) })
+    (AreLawful-each_cycle (carry_instance nets widths) (λ k. record { ports = refl; widths = (h, refl) }) 1 n)
 
 -- the instances of a component with lawful widths are lawful
-pub AreLawful-instances : (kind : Kind) (nets widths : List ℕ) (n : ℕ) → length widths ≡ 3 → IsTrue (are_widths kind widths) → IsTrue (fits_value kind widths) → AreLawful (instances kind nets widths n)
-AreLawful-instances kind nets (a ∷ b ∷ z ∷ []) n three h v = lawful_of_three kind nets a b z n h v
-AreLawful-instances kind nets [] n three h v = absurd (omega arith)
-AreLawful-instances kind nets (a ∷ []) n three h v = absurd (omega arith)
-AreLawful-instances kind nets (a ∷ b ∷ []) n three h v = absurd (omega arith)
-AreLawful-instances kind nets (a ∷ b ∷ z ∷ y ∷ rest) n three h v = absurd (omega arith)
+pub AreLawful-instances : (kind : Kind) (nets widths : List ℕ) (n : ℕ) → IsTrue (are_widths kind widths) → IsTrue (fits_value kind widths) → AreLawful (instances kind nets widths n)
+AreLawful-instances (Reg reset) nets widths n h v = lawful_register reset nets widths n h v
+AreLawful-instances (Block block) nets widths n h v = All-nil IsLawfulInstance
+AreLawful-instances kind nets widths n h v = lawful_cycles kind nets widths n h v

@@ -14,7 +14,7 @@ use Rattle.circuit_model.proofs.Monotony.{IsForced-map, IsRefuted-map}
 use Rattle.circuit_model.proofs.Rounds.{Follows-forced, Clashes-refuted, Clashes-two_words}
 
 -- each known word with its cell is one of the facts
-IsIn-facts_at : (cells : List Cell) (known : List (Option ℕ)) (p v : ℕ) (c : Cell) → slice_get known p ≡ Some (Some v) → slice_get cells p ≡ Some c → IsIn (facts_at cells known) (fact c v)
+pub IsIn-facts_at : (cells : List Cell) (known : List (Option ℕ)) (p v : ℕ) (c : Cell) → slice_get known p ≡ Some (Some v) → slice_get cells p ≡ Some c → IsIn (facts_at cells known) (fact c v)
 IsIn-facts_at cells [] p v c k e = absurd (cc)
 IsIn-facts_at [] (o ∷ known) p v c k e = absurd (cc)
 IsIn-facts_at (d ∷ cells) (None ∷ known) zero v c k e = absurd (cc)

@@ -9,6 +9,7 @@ use Rattle.circuit_model.specs.declared.model.Assumption.{Assumption}
 use Rattle.circuit_model.specs.declared.model.Assumption.TheVariants.{Part, Reading}
 use Rattle.circuit_model.specs.Closure.{fact, Holds}
 use Rattle.environment_sets.specs.Sets.{Set, ◌⊆◌, IsMinimal, IsBelow, IsMinimalHittingSet}
+use Rattle.environment_sets.proofs.Hitting.{hitting_alike}
 use Rattle.circuit_model.specs.Stock.{IsChosen}
 use Rattle.circuit_model.specs.Diagnoses.{Circuit, Place, AtPart, AtCell, stock_of, with_readings, AreRefuted, IsConflict, IsDiagnosis, DiagnosesAreHittingSets, ReadingsAreConsistent}
 use Rattle.circuit_model.proofs.Monotony.{IsRefutedBy-more}
@@ -31,18 +32,12 @@ module _ (P : Circuit) where
   conflict : (C : Set ℕ) → IsSmallestClash C → IsConflict P C
   conflict C h = record { positions = h.0; minimal = h.1 }
 
-  families : (E F : Set ℕ → Type 0) → ((C : Set ℕ) → E C → F C) → ((C : Set ℕ) → F C → E C) → (D : Set ℕ) → IsMinimalHittingSet E D → IsMinimalHittingSet F D
-  families E F to from D m = record {
-    holds = λ C f. m.holds C (from C f);
-    least = λ G within hits. m.least G within (λ C e. hits C (to C e));
-  }
-
 pub diagnoses_are_hitting_sets : DiagnosesAreHittingSets
 diagnoses_are_hitting_sets P D = (
-  λ (h : IsDiagnosis P D). (h.positions, families P (IsSmallestClash P) (IsConflict P) (conflict P) (small P) D (diagnosis-hits (AreRefuted P) (AreRefuted-more P) (length P.parts) D h.minimal)),
+  λ (h : IsDiagnosis P D). (h.positions, hitting_alike (IsSmallestClash P) (IsConflict P) (conflict P) (small P) D (diagnosis-hits (AreRefuted P) (AreRefuted-more P) (length P.parts) D h.minimal)),
   λ (h : IsBelow (length P.parts) D × IsMinimalHittingSet (IsConflict P) D). record {
     positions = h.0;
-    minimal = hits-diagnosis (AreRefuted P) (AreRefuted-more P) (length P.parts) D (families P (IsConflict P) (IsSmallestClash P) (small P) (conflict P) D h.1);
+    minimal = hits-diagnosis (AreRefuted P) (AreRefuted-more P) (length P.parts) D (hitting_alike (IsConflict P) (IsSmallestClash P) (small P) (conflict P) D h.1);
   },
 )
 

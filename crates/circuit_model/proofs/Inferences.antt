@@ -1,9 +1,10 @@
 -- What an inference says of the ports and of the widths.
-use Rattle.std.proofs.Common.{◌≡◌, ℕ, zero, suc, ◌<◌, ◌^◌, List, [], ◌∷◌, length, Option, Some, None, slice_get, refl, arith}
-use Rattle.std.proofs.lemmas.Option.{slice_get_within}
+use Rattle.std.proofs.Common.{◌≡◌, ℕ, zero, suc, ◌<◌, ◌^◌, List, [], ◌∷◌, length, Option, Some, None, slice_get, refl, ◌∙◌, ap, arith}
+use Rattle.std.specs.Option.{option_map}
+use Rattle.std.proofs.lemmas.Option.{slice_get-map, slice_get_within}
 use Rattle.circuit_model.specs.declared.model.Primitive.{Primitive}
 use Rattle.circuit_model.specs.declared.model.Primitive.TheVariants.{Buf, Not, And, Or, Xor, Nand, Nor, Xnor, Add, Mul, Const}
-use Rattle.circuit_model.specs.Inference.{ports_of, IsOne, AreTwo, AreThree, Relates, FitEach, Matches, IsOfPorts, Forces}
+use Rattle.circuit_model.specs.Inference.{ports_of, IsOne, AreTwo, AreThree, Relates, IsTuple, Matches, IsOfPorts, Forces}
 
 IsOne-length : (R : ℕ → Type 0) (widths t : List ℕ) → IsOne R widths t → length t ≡ 1
 IsOne-length R (w ∷ _) (z ∷ []) h = refl
@@ -31,12 +32,9 @@ Relates-length Add widths t h = AreThree-length _ widths t h
 Relates-length Mul widths t h = AreThree-length _ widths t h
 Relates-length (Const value) widths t h = IsOne-length _ widths t h
 
--- a word of a tuple fits the width at its place
-pub FitEach-at : (widths t : List ℕ) (p w v : ℕ) → FitEach widths t → slice_get widths p ≡ Some w → slice_get t p ≡ Some v → v < 2 ^ w
-FitEach-at widths [] p w v h k e = cc
-FitEach-at [] (x ∷ t) p w v h k e = absurd h
-FitEach-at (u ∷ widths) (x ∷ t) zero w v h k e = let width : u ≡ w = cc in let word : x ≡ v = cc in rw (← width, ← word) h.0
-FitEach-at (u ∷ widths) (x ∷ t) (suc p) w v h k e = FitEach-at widths t p w v h.1 k e
+-- a word of a tuple fits the width at its port
+pub word_fits : (prim : Primitive) (widths t : List ℕ) (p w v : ℕ) → IsTuple prim widths t → slice_get widths p ≡ Some w → slice_get t p ≡ Some v → v < 2 ^ w
+word_fits prim widths t p w v tuple width word = tuple.fits p w v width (slice_get-map Some t p ∙ ap (option_map Some) word)
 
 -- a tuple has a word where one is known
 pub Matches-within : (known : List (Option ℕ)) (t : List ℕ) (p v : ℕ) → Matches known t → slice_get known p ≡ Some (Some v) → p < length t

@@ -36,7 +36,8 @@ module _ {X Y : Type 0} (f : X → Y) (xs : List X) where
   same_at : (i j : ℕ) → slice_get xs i ≡ slice_get xs j → slice_get (map f xs) i ≡ slice_get (map f xs) j
   same_at i j e = slice_get-map f xs i ∙ (ap (option_map f) e ∙ sym (slice_get-map f xs j))
 
-  repeat_map : (n : ℕ) → RepeatAfter n xs → RepeatAfter n (map f xs)
+  -- unused places of a list repeat the last one after f too
+  pub repeat_map : (n : ℕ) → RepeatAfter n xs → RepeatAfter n (map f xs)
   repeat_map zero h = tt
   repeat_map (suc zero) h = (same_at 0 1 h.0, same_at 1 2 h.1)
   repeat_map (suc (suc zero)) h = same_at 1 2 h

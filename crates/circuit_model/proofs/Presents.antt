@@ -3,7 +3,7 @@ use Rattle.std.proofs.Common.{◌≡◌, ◌≢◌, ℕ, zero, suc, ◌+◌, ◌
 use Rattle.std.specs.Prelude.{slice_index, slice_index_or}
 use Rattle.std.specs.List.{slice_get, All, position, prefix_len, remove}
 use Rattle.std.specs.Str.{bytes_eq}
-use Rattle.std.proofs.lemmas.Bool.{false≢true}
+use Rattle.std.proofs.lemmas.Bool.{false≢true, false_from_ne_true}
 use Rattle.std.proofs.lemmas.Bool.Decides.{nat_tests}
 use Rattle.std.proofs.lemmas.Slice.Eq.{bytes_eq-Decides}
 use Rattle.std.proofs.lemmas.List.{append-nil, append_assoc, length_push, map-append, length-map, get_or_append_left, get_or-map, take-append-drop, drop_at, length-take}
@@ -18,10 +18,18 @@ use Rattle.circuit_model.specs.declared.present.Net.{Net}
 use Rattle.circuit_model.specs.Names.{is_name}
 use Rattle.circuit_model.specs.Kinds.{block_in}
 use Rattle.circuit_model.specs.declared.present.DeclaredMode.{DeclaredMode}
+use Rattle.circuit_model.proofs.Changes.{All-back, All-front}
 use Rattle.circuit_model.proofs.Moves.{All-read, IsKeptNet, component_kept, component_same, fact_kept, pins_there, mode_moved, mode_kept, last_port_there, component_of_mode}
-use Rattle.circuit_model.specs.Present.{PresentView, names_of, net_named, part_named, net_or_part, named_in, width_of, with_cycles, with_net, with_part, without_last_part, without_part, IsLawfulComponent, IsLawfulMode, IsFactOf, IsLawful, IsUnusedPart}
+use Rattle.circuit_model.specs.Present.{PresentView, names_of, circuit_of, net_named, part_named, net_or_part, named_in, width_of, with_cycles, with_net, with_part, without_last_part, without_part, IsLawfulComponent, IsLawfulMode, IsFactOf, IsLawful, IsUnusedPart}
 use Rattle.circuit_model.specs.declared.limits.TheConstants.{MOST_CYCLES, MOST_NETS, MOST_CELLS, MOST_PARTS}
 use Rattle.word_domain.specs.declared.width.TheConstants.{WIDEST}
+
+pub other_bytes : (xs ys : List ℕ) → (xs ≡ ys → ⊥) → bytes_eq xs ys ≡ false
+other_bytes xs ys apart = false_from_ne_true (bytes_eq xs ys) (λ e. apart ((bytes_eq-Decides xs ys).0 e))
+
+-- the circuit has as many parts
+pub count_parts : (s : PresentView) → length s.parts ≡ length (circuit_of s).parts
+count_parts s = sym (length-map s.parts (λ (c : Component). c.part))
 
 pub passed : (b : Bool) (i n : ℕ) → cond (ltb (cond (not b) (1 + i) 0) (suc n)) (Some (cond (not b) (1 + i) 0)) None ≡ None → (b ≡ false) × (cond (ltb i n) (Some i) None ≡ None)
 passed b i n h = (grind (arith, nat_tests), grind (arith, nat_tests))
@@ -185,9 +193,6 @@ module _ (c : Component) (s : PresentView) where
         each_mode = All-weaker (IsLawfulMode s) (IsLawfulMode (with_part c s)) IsLawfulMode-with_part s.modes h.each_mode;
       }
 
-all_front : {X : Type 0} (P : X → Type 0) (xs ys : List X) → All P (xs ++ ys) → All P xs
-all_front P xs ys h = subst (All P) (take-append_seam xs ys) (All-take P (length xs) (xs ++ ys) h)
-
 -- a present without its last component is lawful
 module _ (s : PresentView) where
   component_without : (d : Component) → IsLawfulComponent s d → IsLawfulComponent (without_last_part s) d
@@ -217,7 +222,7 @@ module _ (s : PresentView) where
         cells = h.cells;
         parts = let few : length (take n s.parts) ≤ length s.parts = omega (arith, length-take n s.parts) in omega (arith, few, h.parts);
         readings = h.readings;
-        names = all_front (λ n. IsTrue (is_name n)) (nets ++ front) rest (subst (λ (ns : List (List ℕ)). All (λ n. IsTrue (is_name n)) ns) names h.names);
+        names = All-front (λ n. IsTrue (is_name n)) (nets ++ front) rest (subst (λ (ns : List (List ℕ)). All (λ n. IsTrue (is_name n)) ns) names h.names);
         distinct = AreDistinct-left (nets ++ front) rest (subst (λ (ns : List (List ℕ)). AreDistinct ns) names h.distinct);
         widths = h.widths;
         each_part = All-weaker (IsLawfulComponent s) (IsLawfulComponent (without_last_part s)) component_without (take n s.parts) (All-take (IsLawfulComponent s) n s.parts h.each_part);
@@ -263,7 +268,7 @@ module _ {X Y : Type 0} (f : X → Y) where
   map-remove (x ∷ xs) (suc place) = ap (λ ys. f x ∷ ys) (map-remove xs place)
 
 module _ {X : Type 0} where
-  IsIn-front_remove : (ns xs : List X) (place : ℕ) (x : X) → IsIn (ns ++ remove xs place) x → IsIn (ns ++ xs) x
+  pub IsIn-front_remove : (ns xs : List X) (place : ℕ) (x : X) → IsIn (ns ++ remove xs place) x → IsIn (ns ++ xs) x
   IsIn-front_remove ns xs place x h = elim (IsIn-append ns (remove xs place) x h) as (λ _. IsIn (ns ++ xs) x) [
     | inl a ↦ IsIn-left ns xs x a
     | inr b ↦ let r : (k : ℕ) × (k ≢ place) × (slice_get xs k ≡ Some x) = IsIn-remove xs place x b in IsIn-right ns xs x (IsIn-slice_get xs r.0 x r.2)
@@ -279,11 +284,8 @@ module _ {X : Type 0} where
   AreDistinct-front_remove [] xs place h = AreDistinct-remove xs place h
   AreDistinct-front_remove (n ∷ ns) xs place h = ((λ y at. h.0 y (IsIn-front_remove ns xs place y at)), AreDistinct-front_remove ns xs place h.1)
 
-  back_all : (P : X → Type 0) (ns xs : List X) → All P (ns ++ xs) → All P xs
-  back_all P ns xs h = subst (All P) (drop_at ns xs (length ns) refl) (All-drop P (length ns) (ns ++ xs) h)
-
   pub All-front_remove : (P : X → Type 0) (ns xs : List X) (place : ℕ) → All P (ns ++ xs) → All P (ns ++ remove xs place)
-  All-front_remove P ns xs place h = All-append P ns (remove xs place) (all_front P ns xs h) (All-remove P xs place (back_all P ns xs h))
+  All-front_remove P ns xs place h = All-append P ns (remove xs place) (All-front P ns xs h) (All-remove P xs place (All-back P ns xs h))
 
 -- a present without one component is lawful
 module _ (s : PresentView) (part : ℕ) where

@@ -23,7 +23,8 @@ either_first true true x y z apart = absurd (apart refl refl)
 either_first true false x y z apart = refl
 either_first false t x y z apart = refl
 
-measured_later : (t : Bool) (v : ℕ) (o : Option ℕ) → cond t (Some v) o ≡ None → (t ≡ false) × (o ≡ None)
+-- a cell that has no word is not the first one's, and has none among the others
+pub measured_later : (t : Bool) (v : ℕ) (o : Option ℕ) → cond t (Some v) o ≡ None → (t ≡ false) × (o ≡ None)
 measured_later true v o h = cc
 measured_later false v o h = (refl, h)
 

@@ -1,5 +1,6 @@
 -- Where a measurement would tell diagnoses apart.
 use Rattle.std.proofs.Common.{cond, ◌≡◌, ◌≢◌, ℕ, ◌+◌, ◌*◌, ◌<◌, ◌≤◌, ◌⊎◌, inl, inr, refl, sym, ap, ap₂, subst, ◌∙◌, List, [], ◌∷◌, length, Option, Some, None, arith}
+use Rattle.std.proofs.lemmas.Bool.{cases_eq}
 use Rattle.std.specs.List.{sum_by, AllZip}
 use Rattle.std.proofs.lemmas.Bool.Decides.{nat_tests}
 use Rattle.std.proofs.lemmas.List.Sums.{sum_by-cons}
@@ -21,9 +22,6 @@ use Rattle.circuit_model.proofs.Rounds.{Clashes-two_words}
 abbrev part : ℕ → ℕ → Option ℕ → ℕ
 part v w o = cond (is_word v o) w 0 + cond (is_silent o) w 0
 
-eq_or_not : (v w : ℕ) → (v ≡ w) ⊎ (v ≢ w)
-eq_or_not v w = grind arith
-
 part-same : (v u w : ℕ) → v ≡ u → part v w (Some u) ≡ w
 part-same v u w e = grind (arith, nat_tests)
 
@@ -33,7 +31,7 @@ part-other v u w d = grind (arith, nat_tests)
 -- all of it, or none of it where another word is predicted
 part_or_other : (v w : ℕ) (o : Option ℕ) → (part v w o ≡ w) ⊎ ((u : ℕ) × (o ≡ Some u) × (v ≢ u) × (part v w o ≡ 0))
 part_or_other v w None = inl (omega arith)
-part_or_other v w (Some u) = elim (eq_or_not v u) [ inl e ↦ inl (part-same v u w e) | inr d ↦ inr (u, refl, d, part-other v u w d) ]
+part_or_other v w (Some u) = elim (cases_eq v u) [ inl e ↦ inl (part-same v u w e) | inr d ↦ inr (u, refl, d, part-other v u w d) ]
 
 -- the weight of those that predict v or nothing
 agreeing : ℕ → List Prediction → ℕ
@@ -199,7 +197,7 @@ weight_for_cost-pos cost = pow_pos _
 module _ (P : Circuit) (c : Cell) where
   -- a diagnosis predicts one word at most
   pub one_word : (D : Set ℕ) → IsDiagnosis P D → (v w : ℕ) → Predicts P c D v → Predicts P c D w → v ≡ w
-  one_word D is v w low high = elim (eq_or_not v w) [
+  one_word D is v w low high = elim (cases_eq v w) [
     | inl e ↦ e
     | inr d ↦ absurd (is.minimal.holds (Clashes-two_words (IsChosen (stock_of P) (with_readings P (others (length P.parts) D))) (record {
       cell = c;

@@ -9,7 +9,7 @@ use Rattle.circuit_model.specs.declared.rules.Class.{Class}
 use Rattle.circuit_model.specs.declared.rules.Class.TheVariants.{OneInput, TwoInputs, Alone}
 use Rattle.circuit_model.specs.declared.model.Instance.{Instance}
 use Rattle.circuit_model.specs.Inference.{ports_of}
-use Rattle.circuit_model.specs.Lawful.{WidthRule, AllTheSame, LastTheSum, RoomFor, width_rule}
+use Rattle.circuit_model.specs.Lawful.{width_rule, keep_rule}
 
 -- the definition that a component of the kind is a block of, if it is a block
 abbrev pub block_in : Kind → Option ℕ
@@ -43,20 +43,6 @@ primitive_of Mul = prim.Mul
 primitive_of (Const value) = prim.Const value
 primitive_of (Reg reset) = prim.Buf
 primitive_of (Block block) = prim.Const 0
-
--- three widths are the same
-abbrev pub are_equal : List ℕ → Bool
-are_equal widths = (slice_index widths 0 == slice_index widths 1) && (slice_index widths 1 == slice_index widths 2)
-
--- the last of three widths is the sum of the others
-abbrev pub is_last_the_sum : List ℕ → Bool
-is_last_the_sum widths = slice_index widths 2 == slice_index widths 0 + slice_index widths 1
-
--- three widths keep the rule, but for the room of a value
-abbrev pub keep_rule : WidthRule → List ℕ → Bool
-keep_rule AllTheSame widths = are_equal widths
-keep_rule LastTheSum widths = is_last_the_sum widths
-keep_rule (RoomFor value) widths = true
 
 -- The ports' widths keep the kind's rule. (Lists of three: unused places repeat the last port.)
 abbrev pub are_widths : Kind → List ℕ → Bool

@@ -27,12 +27,31 @@ impl Cell {
     }
 }
 
-/// A word at a cell. Those of a present have a word below two to the width of the cell's net, which is at most
+/// A word at a cell. Facts go by cell, then by word. Those of a present have a word below two to the width of the cell's net, which is at most
 /// [`WIDEST`](word_domain::WIDEST).
-#[derive(Clone, Copy, PartialEq, Eq, Debug)]
+#[derive(Clone, Copy, PartialEq, Eq, PartialOrd, Ord, Debug)]
 pub struct Fact {
     pub cell: Cell,
     pub value: u64,
+}
+
+impl Fact {
+    ghost use Rattle.std.specs.Prelude.{◌↔◌, IsTrue};
+    ghost use Rattle.circuit_model.specs.Derivation.{is_fact_before};
+
+    /// Whether it comes before the other one: by cell, then by word.
+    pub fn comes_before(self, other: Fact) -> bool
+        ensures { result ≡ is_fact_before self other }
+    {
+        self < other
+    }
+
+    /// Whether the two are not two words at one cell.
+    pub fn agrees_with(self, other: Fact) -> bool
+        ensures { IsTrue result ↔ (self.cell ≡ other.cell → self ≡ other) }
+    {
+        self.cell != other.cell || self == other
+    }
 }
 
 /// A kind of relation between the words at ports: the last port's word is given by the others, and `Const` gives its

@@ -376,7 +376,7 @@ impl Present {
         requires room { length self.old.readings < MOST_READINGS }
         ensures { self.new ≡ with_standing fact self.old }
     {
-        let place = place_of(&self.readings, fact);
+        let place = place_for(&self.readings, fact);
         match self.readings.insert(place, fact) {
             Ok(()) => (),
             Err(_) => unreachable!(),
@@ -583,7 +583,7 @@ fn reading_of(readings: &[Fact], cell: Cell) -> Option<u64>
 }
 
 // The place of a further fact in the order of cells.
-fn place_of(readings: &[Fact], fact: Fact) -> usize
+fn place_for(readings: &[Fact], fact: Fact) -> usize
     ensures within { result ≤ length readings.now }
     ensures place { insert readings.now result fact ≡ with_reading fact readings.now }
 {

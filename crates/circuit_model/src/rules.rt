@@ -2,20 +2,21 @@
 
 ghost use Rattle.std.specs.Prelude.{◌≡◌, ◌≢◌, ◌↔◌, IsTrue};
 ghost use Rattle.circuit_model.specs.Kinds as rules;
+ghost use Rattle.circuit_model.specs.Lawful as lawful;
 
 use crate::model::Kind;
 use word_domain::Width;
 
 // Whether the three widths are the same.
 fn are_equal(widths: &[Width; 3]) -> bool
-    ensures { result ≡ rules.are_equal widths.now }
+    ensures { result ≡ lawful.are_equal widths.now }
 {
     widths[0].bits() == widths[1].bits() && widths[1].bits() == widths[2].bits()
 }
 
 // Whether the last of the three widths is the sum of the others.
 fn is_last_the_sum(widths: &[Width; 3]) -> bool
-    ensures { result ≡ rules.is_last_the_sum widths.now }
+    ensures { result ≡ lawful.is_last_the_sum widths.now }
 {
     widths[2].bits() == widths[0].bits() + widths[1].bits()
 }

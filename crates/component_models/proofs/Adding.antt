@@ -6,7 +6,7 @@ use Rattle.word_domain.proofs.Masks.{sum-difference}
 use Rattle.circuit_model.specs.declared.model.Primitive.TheVariants.{Add}
 use Rattle.circuit_model.specs.Inference.{IsInference}
 use Rattle.component_models.specs.Tables.{forced_by_two, sum_of, difference_of}
-use Rattle.component_models.proofs.Functions.{three_words, IsFunction}
+use Rattle.component_models.proofs.Functions.{three_fit, three_words, IsFunction}
 use Rattle.component_models.proofs.Latin.{IsLatin, latin_is_exact}
 
 difference-sum : (m a b : ℕ) → a < m → b < m → ((a + b) % m + (m - a)) % m ≡ b
@@ -18,7 +18,7 @@ module _ (w : ℕ) where
   adder : IsFunction Add w w w (sum_of w)
   adder = record {
     third_fits = λ a b p q. mod_below (a + b) (2 ^ w) (pow_pos w);
-    tuple_of = λ a b z p q r e. record { fits = (p, (q, (r, tt))); relates = e };
+    tuple_of = λ a b z p q r e. record { fits = three_fit w w w [] a b z p q r; relates = e };
     by_words = λ C here t h. three_words (λ w a b z. z ≡ (a + b) % 2 ^ w) w w w C here t h.fits h.relates;
   }
 

@@ -6,7 +6,7 @@ use Rattle.std.proofs.lemmas.Nat.Bits.{bit_at_and, bit_at_xor, bit_at-lt, same_f
 use Rattle.circuit_model.specs.declared.model.Primitive.{Primitive}
 use Rattle.circuit_model.specs.declared.model.Primitive.TheVariants.{And, Or, Xor, Nand, Nor, Xnor}
 use Rattle.circuit_model.specs.Inference.{BitByBit, Relates, IsTuple}
-use Rattle.component_models.proofs.Functions.{three_words, IsFunction}
+use Rattle.component_models.proofs.Functions.{three_fit, three_words, IsFunction}
 use Rattle.component_models.proofs.Complements.{complement_of, complement-lt, bit_at_complement}
 
 -- the tuples of the primitive are three words, whose bits go together
@@ -22,7 +22,7 @@ record HasBits (w : ℕ) (bit word : ℕ → ℕ → ℕ) : Type 0 where
 function_of : (prim : Primitive) (w : ℕ) (bit word : ℕ → ℕ → ℕ) → IsBitwise prim w bit → HasBits w bit word → IsFunction prim w w w word
 function_of prim w bit word is has = record {
   third_fits = has.fits;
-  tuple_of = λ a b z p q r e. record { fits = (p, (q, (r, tt))); relates = is.relates a b z (λ i l. ap (λ k. bit_at k i) e ∙ has.bits a b i p q l) };
+  tuple_of = λ a b z p q r e. record { fits = three_fit w w w [] a b z p q r; relates = is.relates a b z (λ i l. ap (λ k. bit_at k i) e ∙ has.bits a b i p q l) };
   by_words = λ C here. is.by_bits C (λ a b z p q r each. here a b z p q r (same_from_bits_below w z (word a b) r (has.fits a b p q) (λ i l. each i l ∙ sym (has.bits a b i p q l))));
 }
 

@@ -1,16 +1,15 @@
 -- Forced words fit, and are at three places.
 use Rattle.std.proofs.Common.{◌≡◌, ℕ, zero, suc, ◌^◌, ◌<◌, Bool, List, [], ◌∷◌, length, get_or, Option, Some, None, IfSome, slice_get, refl, ap, arith}
 use Rattle.circuit_model.specs.declared.model.Primitive.{Primitive}
-use Rattle.circuit_model.specs.Inference.{IsInference}
-use Rattle.circuit_model.proofs.Inferences.{FitEach-at}
-use Rattle.component_models.specs.Asking.{WordsFit}
+use Rattle.circuit_model.specs.Inference.{IsInference, WordsFit}
+use Rattle.circuit_model.proofs.Inferences.{word_fits}
 
 -- a forced word is one of a tuple, and so it fits
 pub forced_words_fit : (prim : Primitive) (widths : List ℕ) (known : List (Option ℕ)) (refuted : Bool) (forced : List (Option ℕ)) → IsInference prim widths known refuted forced → WordsFit widths forced
 forced_words_fit prim widths known refuted forced i p w v e f =
     let forces = (i.forces_exactly p v).0 f in
     let some_tuple = forces.some_tuple in
-    FitEach-at widths some_tuple.0 p w v some_tuple.1.fits e (forces.every_tuple some_tuple.0 some_tuple.1 some_tuple.2)
+    word_fits prim widths some_tuple.0 p w v some_tuple.1 e (forces.every_tuple some_tuple.0 some_tuple.1 some_tuple.2)
 
 get_or_some : (xs : List (Option ℕ)) (p v : ℕ) → get_or xs p None ≡ Some v → slice_get xs p ≡ Some (Some v)
 get_or_some [] p v e = cc

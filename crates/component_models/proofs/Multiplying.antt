@@ -7,7 +7,7 @@ use Rattle.circuit_model.specs.declared.model.Primitive.TheVariants.{Mul}
 use Rattle.circuit_model.specs.Inference.{IsTuple, Matches, Refutes, Forces, IsInference}
 use Rattle.component_models.specs.Tables.{product_of, IsOtherFactor}
 use Rattle.component_models.proofs.Ports.{Known, Forced, Free, not_refuted, of_three_places}
-use Rattle.component_models.proofs.Functions.{three_words, IsFunction, differ_at}
+use Rattle.component_models.proofs.Functions.{three_fit, three_words, IsFunction, differ_at}
 
 module _ (wa wb : ℕ) where
   abbrev ws : List ℕ
@@ -19,7 +19,7 @@ module _ (wa wb : ℕ) where
   multiplier : IsFunction Mul wa wb (wa + wb) (λ a b. a * b)
   multiplier = record {
     third_fits = product_fits;
-    tuple_of = λ a b z p q r e. record { fits = (p, (q, (r, tt))); relates = e };
+    tuple_of = λ a b z p q r e. record { fits = three_fit wa wb (wa + wb) [] a b z p q r; relates = e };
     by_words = λ C here t h. three_words (λ w a b z. z ≡ a * b) wa wb (wa + wb) C here t h.fits h.relates;
   }
 

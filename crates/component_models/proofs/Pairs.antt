@@ -6,7 +6,7 @@ use Rattle.circuit_model.specs.declared.model.Primitive.{Primitive}
 use Rattle.circuit_model.specs.declared.model.Primitive.TheVariants.{Buf, Not}
 use Rattle.circuit_model.specs.Inference.{IsTuple, Matches, IsUsed, IsInference}
 use Rattle.component_models.proofs.Ports.{Known, Forced, Free, Absent, not_refuted}
-use Rattle.component_models.proofs.Functions.{two_words, zero_ne_one, differ_at}
+use Rattle.component_models.proofs.Functions.{two_fit, two_words, zero_ne_one, differ_at}
 use Rattle.component_models.proofs.Complements.{complement_of, complement-lt, complement-complement}
 
 -- the tuples of the primitive are two words, each the turn of the other
@@ -76,7 +76,7 @@ module _ (w : ℕ) where
     used = λ _. tt;
     fits = λ v p. p;
     twice = λ v p. refl;
-    tuple_of = λ a z p q e. record { fits = (p, (q, tt)); relates = e };
+    tuple_of = λ a z p q e. record { fits = two_fit w w (w ∷ []) a z p q; relates = e };
     by_words = λ C here t h. two_words (λ w a z. z ≡ a) w w (w ∷ []) C here t h.fits h.relates;
   }
 
@@ -85,7 +85,7 @@ module _ (w : ℕ) where
     used = λ _. tt;
     fits = complement-lt w;
     twice = complement-complement w;
-    tuple_of = λ a z p q e. record { fits = (p, (q, tt)); relates = e };
+    tuple_of = λ a z p q e. record { fits = two_fit w w (w ∷ []) a z p q; relates = e };
     by_words = λ C here t h. two_words (λ w a z. z ≡ 2 ^ w - 1 - a) w w (w ∷ []) C here t h.fits h.relates;
   }
 

@@ -3,10 +3,6 @@ use Rattle.std.specs.Prelude.{◌≡◌, ℕ, ◌^◌, ◌<◌, List, Option, So
 use Rattle.circuit_model.specs.declared.model.Primitive.{Primitive}
 use Rattle.circuit_model.specs.Inference.{ports_of, IsUnknownAt}
 
--- each known word fits the width at its place
-abbrev pub WordsFit : List ℕ → List (Option ℕ) → Type 0
-WordsFit widths known = (p w v : ℕ) → slice_get widths p ≡ Some w → slice_get known p ≡ Some (Some v) → v < 2 ^ w
-
 -- at some port no word is known
 abbrev pub HasOpenPort : Primitive → List (Option ℕ) → Type 0
 HasOpenPort prim known = (p : ℕ) × (p < ports_of prim) × IsUnknownAt known p

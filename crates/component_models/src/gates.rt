@@ -3,8 +3,7 @@
 ghost use Rattle.std.specs.Prelude.{◌≡◌, ◌<◌, ◌≤◌, ◌-◌, ◌^◌, ◌⊎◌, ◌∷◌, [], IfSome, IsNone, bit_xor};
 ghost use Rattle.std.specs.Option.{option_map};
 ghost use Rattle.circuit_model.specs.declared.model.Primitive.TheVariants.{And, Or, Xor, Nand, Nor, Xnor};
-ghost use Rattle.circuit_model.specs.Inference.{IsInference};
-ghost use Rattle.component_models.specs.Asking.{WordsFit};
+ghost use Rattle.circuit_model.specs.Inference.{IsInference, WordsFit};
 ghost use Rattle.component_models.specs.Tables as tables;
 
 use crate::inference::Inference;

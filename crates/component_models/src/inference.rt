@@ -1,9 +1,9 @@
 // One inference, for every primitive.
 
 ghost use Rattle.std.specs.Prelude.{◌≡◌, ◌↔◌, ◌≤◌, ◌<◌, ℕ, IsTrue, length};
-ghost use Rattle.circuit_model.specs.Inference.{IsInference, IsOfPorts, IsUnknownAt};
+ghost use Rattle.circuit_model.specs.Inference.{IsInference, IsOfPorts, IsUnknownAt, WordsFit};
 ghost use Rattle.circuit_model.specs.Lawful.{AreLawfulWidths};
-ghost use Rattle.component_models.specs.Asking.{WordsFit, HasOpenPort};
+ghost use Rattle.component_models.specs.Asking.{HasOpenPort};
 
 use crate::copies::{infer_buf, infer_const, infer_not};
 use crate::gates::{infer_and, infer_nand, infer_nor, infer_or, infer_xnor, infer_xor};

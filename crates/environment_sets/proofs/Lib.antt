@@ -13,5 +13,6 @@ pub mod Within
 pub mod Signed
 pub mod Left
 pub mod Membership
+pub mod Ranges
 pub mod Sorting
 pub mod Elements

@@ -1,14 +1,31 @@
 -- Membership in lists: joined, longer, mapped, at places and by tests.
-use Rattle.std.proofs.Common.{◌≡◌, ℕ, zero, suc, ◌<◌, ◌⊎◌, inl, inr, Bool, true, false, ◌||◌, IsTrue, List, [], ◌∷◌, ◌++◌, length, slice_get, slice_index_or, map, Some, refl, sym, ap, ap₂, subst, ◌∙◌, arith}
+use Rattle.std.proofs.Common.{◌≡◌, ℕ, zero, suc, ◌<◌, ◌⊎◌, inl, inr, Bool, true, false, ◌||◌, IsTrue, List, [], ◌∷◌, ◌++◌, length, slice_get, slice_index_or, map, Option, Some, None, is_some, refl, sym, ap, ap₂, subst, ◌∙◌, arith}
 use Rattle.std.specs.List.{list_any}
 use Rattle.std.proofs.lemmas.Bool.{false≢true}
-use Rattle.environment_sets.specs.Lists.{IsIn, IsRising, AreDistinct}
+use Rattle.environment_sets.specs.Lists.{IsIn, IsRising, AreDistinct, IsRoster}
 
 -- truth values that are true together are equal
 pub same_bool : (a b : Bool) → (IsTrue a → IsTrue b) → (IsTrue b → IsTrue a) → a ≡ b
 same_bool true b to from = sym (to refl)
 same_bool false true to from = from refl
 same_bool false false to from = refl
+
+pub or-end : (a : Bool) → (a || false) ≡ a
+or-end true = refl
+or-end false = refl
+
+pub or-assoc : (a b c : Bool) → (a || (b || c)) ≡ ((a || b) || c)
+or-assoc true b c = refl
+or-assoc false b c = refl
+
+-- where nothing can be found, nothing is
+pub none_found : {X : Type 0} (o : Option X) → ((x : X) → o ≡ Some x → ⊥) → o ≡ None
+none_found None h = refl
+none_found (Some x) h = absurd (h x refl)
+
+pub none_unless_some : {X : Type 0} (o : Option X) → is_some o ≡ false → o ≡ None
+none_unless_some None e = refl
+none_unless_some (Some x) e = cc
 
 module _ {X : Type 0} where
   -- in two lists, one after the other
@@ -116,3 +133,28 @@ module _ {X Y : Type 0} where
   pub map_alike : (f g : X → Y) (xs : List X) → ((x : X) → IsIn xs x → f x ≡ g x) → map f xs ≡ map g xs
   map_alike f g [] same = refl
   map_alike f g (x ∷ xs) same = ap₂ (λ (y : Y) (ys : List Y). y ∷ ys) (same x (inl refl)) (map_alike f g xs (λ y h. same y (inr h)))
+
+-- a roster of what is the same
+pub roster_alike : {X : Type 0} (P Q : X → Type 0) (xs : List X) → ((x : X) → P x → Q x) → ((x : X) → Q x → P x) → IsRoster P xs → IsRoster Q xs
+roster_alike P Q xs to from roster = record { distinct = roster.distinct; exact = λ x. (λ h. to x ((roster.exact x).0 h), λ q. (roster.exact x).1 (from x q)) }
+
+module _ {X : Type 0} where
+  -- an element stands at one place of a distinct list
+  pub one_place : (xs : List X) (i j : ℕ) (x : X) → AreDistinct xs → slice_get xs i ≡ Some x → slice_get xs j ≡ Some x → i ≡ j
+  one_place [] i j x d a b = absurd (cc)
+  one_place (y ∷ xs) zero zero x d a b = refl
+  one_place (y ∷ xs) zero (suc j) x d a b = let same : y ≡ x = cc in absurd (d.0 x (IsIn-slice_get xs j x b) same)
+  one_place (y ∷ xs) (suc i) zero x d a b = let same : y ≡ x = cc in absurd (d.0 x (IsIn-slice_get xs i x a) same)
+  one_place (y ∷ xs) (suc i) (suc j) x d a b = ap suc (one_place xs i j x d.1 a b)
+
+  -- no element stands in both of two lists that are distinct together
+  pub not_in_both : (xs ys : List X) → AreDistinct (xs ++ ys) → (x : X) → IsIn xs x → IsIn ys x → ⊥
+  not_in_both [] ys d x h l = absurd h
+  not_in_both (y ∷ xs) ys d x (inl e) l = d.0 x (IsIn-right xs ys x l) e
+  not_in_both (y ∷ xs) ys d x (inr h) l = not_in_both xs ys d.1 x h l
+
+  -- there is an element at each place
+  pub at_place : (xs : List X) (i : ℕ) → i < length xs → (x : X) × (slice_get xs i ≡ Some x)
+  at_place [] i low = absurd (omega arith)
+  at_place (x ∷ xs) zero low = (x, refl)
+  at_place (x ∷ xs) (suc i) low = at_place xs i (omega arith)

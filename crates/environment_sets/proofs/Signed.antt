@@ -9,7 +9,7 @@ use Rattle.environment_sets.specs.declared.environment.TheConstants.{WORD_BITS}
 use Rattle.environment_sets.specs.Members.{members, has_bit, slots_in}
 use Rattle.environment_sets.specs.Signatures.{union_of, signature, HasRest, IsSignature}
 use Rattle.environment_sets.specs.Laws.{SubsetsHaveLess}
-use Rattle.environment_sets.proofs.Words.{has_bit-zero, has_bit-and, has_bit-or, same_word, slots_in-at}
+use Rattle.environment_sets.proofs.Words.{absorbed, has_bit-zero, has_bit-and, has_bit-or, same_word, slots_in-at}
 
 -- a word of the list has the bit
 abbrev HasWordWith : List ℕ → ℕ → Type 0
@@ -67,10 +67,6 @@ subsets_have_less e f within =
     same_word WORD_BITS (bit_and a b) a (omega (arith, and_le_l a b, signature_fits e)) (signature_fits e) (λ k low. has_bit-and a b k ∙ absorbed (has_bit a k) (has_bit b k) (λ h.
     let found : HasRest (members e) k = (is_signature e k low).0 h in
     (is_signature f k low).1 (found.0, within found.0 found.1, found.2)))
-  where
-    absorbed : (p q : Bool) → (IsTrue p → IsTrue q) → (p && q) ≡ p
-    absorbed true q h = h refl
-    absorbed false q h = refl
 
 or_assoc : (a b c : ℕ) → bit_or (bit_or a b) c ≡ bit_or a (bit_or b c)
 or_assoc a b c =

@@ -15,6 +15,11 @@ use Rattle.environment_sets.specs.Members.{has_bit, slots_in}
 use Rattle.environment_sets.proofs.Sizes.{size_below-agree}
 use Rattle.environment_sets.proofs.Elements.{some_element}
 
+-- what implies another takes it in
+pub absorbed : (p q : Bool) → (IsTrue p → IsTrue q) → (p && q) ≡ p
+absorbed true q h = h refl
+absorbed false q h = refl
+
 -- ---- one word
 
 pub has_bit-zero : (k : ℕ) → has_bit 0 k ≡ false
@@ -227,10 +232,6 @@ module _ (xs ys : List ℕ) where
       let b : ℕ = get_or ys i 0 in
       let smaller : bit_and a b < 2 ^ WORD_BITS = omega (arith, and_le_l a b) in
       same_word WORD_BITS (bit_and a b) a smaller fits (λ k low. has_bit-and a b k ∙ absorbed (has_bit a k) (has_bit b k) (λ h. sym (slots_in-at ys i k low) ∙ within (i * WORD_BITS + k) (slots_in-at xs i k low ∙ h)))
-    where
-      absorbed : (p q : Bool) → (IsTrue p → IsTrue q) → (p && q) ≡ p
-      absorbed true q h = h refl
-      absorbed false q h = refl
 
 -- ---- sizes, word by word
 

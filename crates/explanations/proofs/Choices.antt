@@ -2,7 +2,7 @@
 use Rattle.std.proofs.Common.{◌≡◌, ℕ, zero, suc, ◌+◌, ◌*◌, ◌/◌, ◌%◌, ◌<◌, ◌==◌, Bool, true, false, if◌then◌else◌, List, [], ◌∷◌, length, slice_get, Option, Some, None, refl, sym, ap, ap₂, subst, ◌∙◌, arith}
 use Rattle.std.proofs.lemmas.Bool.{eq-eqb, ne_eqb}
 use Rattle.circuit_model.specs.Derivation.{number_of}
-use Rattle.component_models.specs.Asking.{WordsFit}
+use Rattle.circuit_model.specs.Inference.{WordsFit}
 use Rattle.explanations.specs.Words.{chosen_words}
 
 pub length-chosen_words : (places : ℕ) (words : List (Option ℕ)) → length (chosen_words places words) ≡ length words

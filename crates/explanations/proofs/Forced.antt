@@ -9,11 +9,10 @@ use Rattle.circuit_model.specs.declared.model.Cell.{Cell}
 use Rattle.circuit_model.specs.declared.model.Fact.{Fact}
 use Rattle.circuit_model.specs.declared.model.Instance.{Instance}
 use Rattle.circuit_model.specs.declared.present.Component.{Component}
-use Rattle.circuit_model.specs.Inference.{Forces, IsInference}
+use Rattle.circuit_model.specs.Inference.{Forces, IsInference, WordsFit}
 use Rattle.circuit_model.specs.Diagnoses.{Circuit}
 use Rattle.circuit_model.specs.Derivation.{number_of, facts_at}
 use Rattle.circuit_model.specs.Present.{PresentView, IsLawful}
-use Rattle.component_models.specs.Asking.{WordsFit}
 use Rattle.proof_check.specs.Closing.{Timed}
 use Rattle.proof_check.specs.Written.{given, at_two_places}
 use Rattle.proof_check.proofs.Instances.{AreCells, cells_of}

@@ -3,10 +3,9 @@ use Rattle.std.specs.Prelude.{◌≡◌, ℕ, ◌<◌, ◌≤◌, ◌⊎◌, Lis
 use Rattle.environment_sets.specs.Sets.{Set}
 use Rattle.circuit_model.specs.declared.model.Fact.{Fact}
 use Rattle.circuit_model.specs.declared.model.Instance.{Instance}
-use Rattle.circuit_model.specs.Inference.{Forces}
+use Rattle.circuit_model.specs.Inference.{Forces, WordsFit}
 use Rattle.circuit_model.specs.Diagnoses.{Circuit, Place}
 use Rattle.circuit_model.specs.Derivation.{Step, Measured, Inferred, by_instance, number_of, facts_at, HoldsAt, Justifies, IsFirst}
-use Rattle.component_models.specs.Asking.{WordsFit}
 use Rattle.proof_check.specs.Closing.{Timed}
 use Rattle.proof_check.specs.Written.{given}
 use Rattle.explanations.specs.Words.{word_by, chosen_words}

@@ -2,7 +2,7 @@
 
 ghost use Rattle.std.specs.Prelude.{◌≡◌, ◌<◌, ◌^◌, ℕ, ◌↔◌, IsTrue, length, slice_get, Some, MatchOption};
 ghost use Rattle.circuit_model.specs.Lawful.{IsLawfulInstance};
-ghost use Rattle.component_models.specs.Asking.{WordsFit};
+ghost use Rattle.circuit_model.specs.Inference.{WordsFit};
 ghost use Rattle.circuit_model.specs.Derivation as derivations;
 ghost use Rattle.circuit_model.specs.Present.{circuit_of};
 ghost use Rattle.proof_check.specs.Written.{at_two_places};

@@ -6,18 +6,11 @@ use Rattle.environment_sets.specs.Sets.{Set}
 use Rattle.environment_sets.specs.Members.{members, sets}
 use Rattle.environment_sets.specs.Lists.{IsIn, AreDistinct, IsRoster}
 use Rattle.environment_sets.proofs.Listings.{sets-push, IsIn-get_or, IsIn-push, IsIn-front, IsIn-last}
-use Rattle.environment_sets.proofs.Membership.{IsIn-append, IsIn-left, IsIn-right, AreDistinct-append, AreDistinct-left}
+use Rattle.environment_sets.proofs.Membership.{IsIn-append, IsIn-left, IsIn-right, AreDistinct-append, AreDistinct-left, roster_alike}
 use Rattle.hitting_sets.specs.Hitting.{Adds}
 use Rattle.hitting_sets.proofs.Widening.{HasMore}
 
 module _ {X : Type 0} where
-  pub roster_alike : (P Q : X → Type 0) (xs : List X) → ((x : X) → P x → Q x) → ((x : X) → Q x → P x) → IsRoster P xs → IsRoster Q xs
-  roster_alike P Q xs to from roster =
-      record {
-        distinct = roster.distinct;
-        exact = λ x. (λ h. to x ((roster.exact x).0 h), λ q. (roster.exact x).1 (from x q));
-      }
-
   pub roster_append : (P Q : X → Type 0) (xs ys : List X) → ((x : X) → P x → Q x → ⊥) → IsRoster P xs → IsRoster Q ys → IsRoster (λ x. P x ⊎ Q x) (xs ++ ys)
   roster_append P Q xs ys apart a b =
       record {

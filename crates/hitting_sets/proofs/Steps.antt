@@ -8,12 +8,12 @@ use Rattle.environment_sets.specs.Sets.{Set, ◌∪◌, only, Hits, HitsEach, Is
 use Rattle.environment_sets.specs.Members.{members, sets, HasMember}
 use Rattle.environment_sets.specs.Lists.{IsIn, AreDistinct, IsRoster}
 use Rattle.environment_sets.proofs.Listings.{sets-push, IsIn-push, IsIn-front, IsIn-last}
-use Rattle.environment_sets.proofs.Membership.{IsIn-left, map-IsIn, AreDistinct-left}
+use Rattle.environment_sets.proofs.Membership.{IsIn-left, map-IsIn, AreDistinct-left, roster_alike}
 use Rattle.hitting_sets.specs.Own.{IsAlone, HasOwn}
 use Rattle.hitting_sets.specs.Hitting.{IsMinimalFor, AreMinimalFor, ComesFrom, Adds}
 use Rattle.hitting_sets.proofs.Minimality.{sets_are_below}
 use Rattle.hitting_sets.proofs.Widening.{widened, of_widened, stays_minimal, wider_hits, one_origin, comes_from_minimal}
-use Rattle.hitting_sets.proofs.Rosters.{IsIn-at, roster_alike, roster_append, roster_one, last_is_new, not_before, IsIn-take, has_more, adds_alike, adds_more, roster_adds}
+use Rattle.hitting_sets.proofs.Rosters.{IsIn-at, roster_append, roster_one, last_is_new, not_before, IsIn-take, has_more, adds_alike, adds_more, roster_adds}
 
 pub take_item : {X : Type 0} (xs : List X) (i : ℕ) (x : X) → i < length xs → x ≡ get_or xs i x → take (i + 1) xs ≡ take i xs ++ x ∷ []
 take_item xs i x low is = take_more xs i x low ∙ ap (λ y. take i xs ++ y ∷ []) (sym is)

@@ -1,10 +1,10 @@
 -- What records and lanes keep.
 use Rattle.std.proofs.Common.{◌≡◌, ◌≢◌, ℕ, ◌+◌, ◌<◌, ◌≤◌, inl, inr, refl, sym, ap, subst, ◌∙◌, List, length, get_or, set, Option, Some, None, IsSome, arith, get_or-set_same, get_or-set_other}
+use Rattle.std.proofs.lemmas.Bool.{cases_eq}
 use Rattle.environment_sets.specs.Lists.{IsIn}
 use Rattle.index_lists.specs.Lists.{Lists, list_at, AreSame, Changes}
 use Rattle.index_lists.specs.Chains.{no_lists}
 use Rattle.index_lists.specs.Kept.{lane_of, IsWider, AreKept}
-use Rattle.index_lists.proofs.Links.{same_or_not}
 use Rattle.environment_sets.proofs.Listings.{none_is_not}
 
 module _ {T : Type 0} (records : List (Option T)) (lanes lanes' : List Lists) (lane : ℕ) (kept : AreKept records lanes) (long : length lanes' ≡ length lanes) (others : (l : ℕ) → l ≢ lane → lane_of lanes' l ≡ lane_of lanes l) where
@@ -12,21 +12,21 @@ module _ {T : Type 0} (records : List (Option T)) (lanes lanes' : List Lists) (l
   pub kept_with : (lane_of lanes' lane).room ≡ (lane_of lanes lane).room → ((h k : ℕ) → IsIn (list_at (lane_of lanes' lane) h) k → IsSome (get_or records k None)) → AreKept records lanes'
   kept_with room has = record {
     four = long ∙ kept.four;
-    room = λ l k low some. elim (same_or_not l lane) [
+    room = λ l k low some. elim (cases_eq l lane) [
       | inl e ↦
           let was : k < (lane_of lanes l).room = kept.room l k low some in
           let P : ℕ → Type 0 = λ j. k < (lane_of lanes j).room → k < (lane_of lanes' j).room in
           subst P (sym e) (λ h. omega (arith, room)) was
       | inr ne ↦ let P : Lists → Type 0 = λ s. k < s.room in subst P (sym (others l ne)) (kept.room l k low some)
     ];
-    there = λ l h k i. elim (same_or_not l lane) [
+    there = λ l h k i. elim (cases_eq l lane) [
       | inl e ↦ has h k (let P : ℕ → Type 0 = λ j. IsIn (list_at (lane_of lanes' j) h) k in subst P e i)
       | inr ne ↦ kept.there l h k (let P : Lists → Type 0 = λ s. IsIn (list_at s h) k in subst P (others l ne) i)
     ];
   }
 
   pub kept_changed : (head : ℕ) (keys : List ℕ) → Changes (lane_of lanes lane) (lane_of lanes' lane) head keys → ((k : ℕ) → IsIn keys k → IsSome (get_or records k None)) → AreKept records lanes'
-  kept_changed head keys c has = kept_with c.room (λ h k i. elim (same_or_not h head) [
+  kept_changed head keys c has = kept_with c.room (λ h k i. elim (cases_eq h head) [
     | inl e ↦ has k (let P : List ℕ → Type 0 = λ l. IsIn l k in subst P c.here (let Q : ℕ → Type 0 = λ j. IsIn (list_at (lane_of lanes' lane) j) k in subst Q e i))
     | inr ne ↦ kept.there lane h k (let P : List ℕ → Type 0 = λ l. IsIn l k in subst P (c.others h ne) i)
   ])
@@ -62,11 +62,11 @@ pub kept_put :
     → ((l : ℕ) → l < 4 → key < (lane_of lanes l).room) → AreKept records' lanes
 kept_put {T} records records' lanes key x kept there others low = record {
   four = kept.four;
-  room = λ l k below some. elim (same_or_not k key) [
+  room = λ l k below some. elim (cases_eq k key) [
     | inl e ↦ let P : ℕ → Type 0 = λ j. j < (lane_of lanes l).room in subst P (sym e) (low l below)
     | inr ne ↦ kept.room l k below (let P : Option T → Type 0 = λ o. IsSome o in subst P (others k ne) some)
   ];
-  there = λ l h k i. elim (same_or_not k key) [
+  there = λ l h k i. elim (cases_eq k key) [
     | inl e ↦ let P : Option T → Type 0 = λ o. IsSome o in subst P (sym (ap (λ (j : ℕ). get_or records' j None) e ∙ there)) refl
     | inr ne ↦ let P : Option T → Type 0 = λ o. IsSome o in subst P (sym (others k ne)) (kept.there l h k i)
   ];
@@ -85,7 +85,7 @@ pub same_width : (s : Lists) → IsWider s s
 same_width s = record { keys = λ h. refl; heads = refl; grows = omega arith }
 
 pub one_wider : (old now : List Lists) (count place : ℕ) (new : Lists) → place < length now → ((l : ℕ) → IsWider (lane_of old l) (lane_of now l)) → IsWider (lane_of now place) new → (l : ℕ) → IsWider (lane_of old l) (lane_of (set now place new) l)
-one_wider old now count place new low was wider l = elim (same_or_not l place) [
+one_wider old now count place new low was wider l = elim (cases_eq l place) [
   | inl e ↦
       let P : Lists → Type 0 = λ s. IsWider (lane_of old place) s in
       let Q : ℕ → Type 0 = λ j. IsWider (lane_of old j) (lane_of (set now place new) j) in
@@ -95,7 +95,7 @@ one_wider old now count place new low was wider l = elim (same_or_not l place) [
 ]
 
 pub one_made : (now : List Lists) (count place : ℕ) (new : Lists) → place < length now → ((l : ℕ) → l < place → count ≤ (lane_of now l).room) → count ≤ new.room → (l : ℕ) → l < place + 1 → count ≤ (lane_of (set now place new) l).room
-one_made now count place new low was made l below = elim (same_or_not l place) [
+one_made now count place new low was made l below = elim (cases_eq l place) [
   | inl e ↦
       let P : Lists → Type 0 = λ s. count ≤ s.room in
       let Q : ℕ → Type 0 = λ j. count ≤ (lane_of (set now place new) j).room in

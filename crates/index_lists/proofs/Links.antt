@@ -1,6 +1,6 @@
 -- Linked lists, and what changes in them.
 use Rattle.std.proofs.Common.{◌≡◌, ◌≢◌, ℕ, zero, suc, ◌+◌, ◌<◌, ◌≤◌, ◌⊎◌, inl, inr, true, false, ◌==◌, not, cond, IsTrue, true≢false, refl, sym, ap, subst, ◌∙◌, List, [], ◌∷◌, length, Option, Some, None, arith}
-use Rattle.std.proofs.lemmas.Bool.{cases_lt}
+use Rattle.std.proofs.lemmas.Bool.{cases_lt, cases_eq}
 use Rattle.std.proofs.lemmas.Bool.Decides.{nat_tests}
 use Rattle.std.proofs.lemmas.List.{get_or_past}
 use Rattle.environment_sets.specs.Lists.{IsIn, AreDistinct}
@@ -14,9 +14,6 @@ none_is_no_some x e = cc
 
 pub same_some : {A : Type 0} (x y : A) → Some x ≡ Some y → x ≡ y
 same_some x y e = cc
-
-pub same_or_not : (k n : ℕ) → (k ≡ n) ⊎ (k ≢ n)
-same_or_not k n = grind arith
 
 -- taking one number away
 without_absent : (key : ℕ) (keys : List ℕ) → (IsIn keys key → ⊥) → without key keys ≡ keys
@@ -35,7 +32,7 @@ without_other key k keys ne = let out : (k == key) ≡ false = grind (arith, nat
 
 length-without : (key : ℕ) (keys : List ℕ) → AreDistinct keys → length keys ≤ length (without key keys) + 1
 length-without key [] d = omega arith
-length-without key (k ∷ keys) d = elim (same_or_not k key) [
+length-without key (k ∷ keys) d = elim (cases_eq k key) [
   | inl e ↦
       let out : IsIn keys key → ⊥ = λ h. d.0 key h e in
       let same : without key (k ∷ keys) ≡ keys = ap (λ (j : ℕ). without key (j ∷ keys)) e ∙ (without_here key keys ∙ without_absent key keys out) in
@@ -216,7 +213,7 @@ module _
             ne (ap (λ (p : Place). p.head) (same_some (between h r.0 r.1) (between head s.0 s.1) (sym r.2 ∙ s.2)))
 
     chains_now : (h : ℕ) → IsChain new h None (Now h)
-    chains_now h = elim (same_or_not h head) [
+    chains_now h = elim (cases_eq h head) [
       | inl e ↦
           let P : ℕ → Type 0 = λ j. IsChain new j None (Now j) in
           let Q : List ℕ → Type 0 = λ l. IsChain new head None l in
@@ -225,7 +222,7 @@ module _
     ]
 
     begins_now : (h : ℕ) → first_at firsts' h ≡ first_of (Now h)
-    begins_now h = elim (same_or_not h head) [
+    begins_now h = elim (cases_eq h head) [
       | inl e ↦ let P : ℕ → Type 0 = λ j. first_at firsts' j ≡ first_of (Now j) in subst P (sym e) (here ∙ ap first_of (sym now_here))
       | inr ne ↦ others h ne ∙ (linked.begins h ∙ ap first_of (sym (now_other h ne)))
     ]
@@ -234,7 +231,7 @@ module _
     kept_in h k i = elim (h == head) as (λ b. IsIn (cond b (key ∷ Was h) (Was h)) k) [ true ↦ inr i | false ↦ i ]
 
     stands_now : (k : ℕ) (p : Place) → place_at new k ≡ Some p → IsIn (Now p.head) k
-    stands_now k p at = elim (same_or_not k key) [
+    stands_now k p at = elim (cases_eq k key) [
       | inl e ↦
           let same : between head None (first_at firsts head) ≡ p = same_some (between head None (first_at firsts head)) p (sym put.here ∙ (ap (λ (j : ℕ). place_at new j) (sym e) ∙ at)) in
           let P : Place → Type 0 = λ q. IsIn (Now q.head) k in
@@ -252,7 +249,7 @@ module _
       where
         first_or_not : (o : Option ℕ) (k : ℕ) → (o ≡ Some k) ⊎ (o ≡ Some k → ⊥)
         first_or_not None k = inr (λ e. none_is_no_some k e)
-        first_or_not (Some j) k = elim (same_or_not j k) [ inl e ↦ inl (ap (λ (n : ℕ). Some n) e) | inr ne ↦ inr (λ e. ne (same_some j k e)) ]
+        first_or_not (Some j) k = elim (cases_eq j k) [ inl e ↦ inl (ap (λ (n : ℕ). Some n) e) | inr ne ↦ inr (λ e. ne (same_some j k e)) ]
 
     pub put_in_front : AreListed firsts' new Now
     put_in_front = relinked firsts' new Now chains_now begins_now stands_now
@@ -319,7 +316,7 @@ module _ (places : List (Option Place)) (h k w : ℕ) where
 
 this_or_not : (o : Option ℕ) (k : ℕ) → (o ≡ Some k) ⊎ (o ≡ Some k → ⊥)
 this_or_not None k = inr (λ e. none_is_no_some k e)
-this_or_not (Some j) k = elim (same_or_not j k) [ inl e ↦ inl (ap (λ (n : ℕ). Some n) e) | inr ne ↦ inr (λ e. ne (same_some j k e)) ]
+this_or_not (Some j) k = elim (cases_eq j k) [ inl e ↦ inl (ap (λ (n : ℕ). Some n) e) | inr ne ↦ inr (λ e. ne (same_some j k e)) ]
 
 -- a key is cut out
 module _
@@ -390,7 +387,7 @@ module _
         (c : Option ℕ) (x : ℕ) (keys : List ℕ) → IsChain old head c (x ∷ keys) → AreDistinct (x ∷ keys) → x ≢ key → IsIn keys key → (c ≡ Some key → ⊥)
         → place_at new x ≡ Some (between head c (first_of (without key keys)))
     next_place c x [] chain d ne i out = absurd i
-    next_place c x (y ∷ keys) chain d ne i out = elim (same_or_not y key) [
+    next_place c x (y ∷ keys) chain d ne i out = elim (cases_eq y key) [
       | inl f ↦
           let b : Some x ≡ before = c_is (Some x) y keys chain.1 d.1 f in
           let a : first_of keys ≡ after = after_is (Some x) y keys chain.1 d.1 f in
@@ -404,7 +401,7 @@ module _
 
     cut_chain : (c : Option ℕ) (keys : List ℕ) → IsChain old head c keys → AreDistinct keys → IsIn keys key → ((z : ℕ) → c ≡ Some z → IsIn keys z → ⊥) → IsChain new head c (without key keys)
     cut_chain c [] chain d i apart = absurd i
-    cut_chain c (x ∷ keys) chain d i apart = elim (same_or_not x key) [
+    cut_chain c (x ∷ keys) chain d i apart = elim (cases_eq x key) [
       | inl e ↦
           let b : c ≡ before = c_is c x keys chain d e in
           let P : ℕ → Type 0 = λ j. IsChain old head (Some j) keys in
@@ -421,7 +418,7 @@ module _
 
     first_left : (keys : List ℕ) → IsChain old head None keys → AreDistinct keys → IsIn keys key → first_at firsts head ≡ first_of keys → first_at firsts' head ≡ first_of (without key keys)
     first_left [] chain d i f = absurd i
-    first_left (x ∷ keys) chain d i f = elim (same_or_not x key) [
+    first_left (x ∷ keys) chain d i f = elim (cases_eq x key) [
       | inl e ↦ top (sym (c_is None x keys chain d e)) ∙ (sym (after_is None x keys chain d e) ∙ ap first_of (sym (left_is None x keys chain d e)))
       | inr ne ↦
           let later : IsIn keys key = elim i [ inl e ↦ absurd (ne e) | inr j ↦ j ] in
@@ -444,13 +441,13 @@ module _
     head_distinct = distinct old head (Stood head) (linked.chains head)
 
     chains_left : (h : ℕ) → IsChain new h None (Left h)
-    chains_left h = elim (same_or_not h head) [
+    chains_left h = elim (cases_eq h head) [
       | inl e ↦ let P : ℕ → Type 0 = λ j. IsChain new j None (Left j) in subst P (sym e) (cut_chain None (Stood head) (linked.chains head) head_distinct key_in (λ z f i. none_is_no_some z f))
       | inr ne ↦ let Q : List ℕ → Type 0 = λ l. IsChain new h None l in subst Q (sym (left_other h ne)) (chain_elsewhere h ne)
     ]
 
     begins_left : (h : ℕ) → first_at firsts' h ≡ first_of (Left h)
-    begins_left h = elim (same_or_not h head) [
+    begins_left h = elim (cases_eq h head) [
       | inl e ↦ let P : ℕ → Type 0 = λ j. first_at firsts' j ≡ first_of (Left j) in subst P (sym e) (first_left (Stood head) (linked.chains head) head_distinct key_in (linked.begins head))
       | inr ne ↦ others h ne ∙ (linked.begins h ∙ ap first_of (sym (left_other h ne)))
     ]

@@ -1,10 +1,9 @@
 -- What known words say that are not at ports, or do not fit.
 use Rattle.std.proofs.Common.{◌≡◌, ◌↔◌, ℕ, zero, suc, Bool, false, IsTrue, List, [], ◌∷◌, Option, Some, None, slice_get, true≢false, sym}
 use Rattle.circuit_model.specs.declared.model.Primitive.{Primitive}
-use Rattle.circuit_model.specs.Inference.{IsTuple, Matches, IsOfPorts, IsUsed, IsInference}
-use Rattle.circuit_model.proofs.Inferences.{FitEach-at, Forces-of_ports}
+use Rattle.circuit_model.specs.Inference.{WordsFit, IsTuple, Matches, IsOfPorts, IsUsed, IsInference}
+use Rattle.circuit_model.proofs.Inferences.{word_fits, Forces-of_ports}
 use Rattle.component_models.specs.Asking.{HasOpenPort}
-use Rattle.inference_search.specs.Choices.{IsMisfit}
 
 -- a tuple that matches has each known word
 Matches-at : (known : List (Option ℕ)) (t : List ℕ) (p v : ℕ) → Matches known t → slice_get known p ≡ Some (Some v) → slice_get t p ≡ Some v
@@ -18,9 +17,8 @@ Matches-at (Some x ∷ known) (u ∷ t) zero v m e = let same : u ≡ x = m.0 in
 Matches-at (Some x ∷ known) (u ∷ t) (suc p) v m e = Matches-at known t p v m.1 e
 
 module _ (prim : Primitive) (widths : List ℕ) (known : List (Option ℕ)) where
-  misfit_matches_none : IsMisfit widths known → (t : List ℕ) → IsTuple prim widths t → Matches known t → ⊥
-  misfit_matches_none misfit t tuple matches =
-      misfit.too_large (FitEach-at widths t misfit.port misfit.width misfit.word tuple.fits misfit.width_there (Matches-at known t misfit.port misfit.word matches misfit.known_there))
+  matched_words_fit : (t : List ℕ) → IsTuple prim widths t → Matches known t → WordsFit widths known
+  matched_words_fit t tuple matches p w v width word = word_fits prim widths t p w v tuple width (Matches-at known t p v matches word)
 
   abbrev nothing : List (Option ℕ)
   nothing = None ∷ None ∷ None ∷ []
@@ -39,8 +37,8 @@ module _ (prim : Primitive) (widths : List ℕ) (known : List (Option ℕ)) wher
   }
 
   -- no tuple has a word that does not fit
-  pub misfit_refutes : (used : Bool) → IsOfPorts prim known → HasOpenPort prim known → IsMisfit widths known → IsTrue used ↔ IsUsed prim known → IsInference prim widths known used (None ∷ None ∷ None ∷ [])
+  pub misfit_refutes : (used : Bool) → IsOfPorts prim known → HasOpenPort prim known → (WordsFit widths known → ⊥) → IsTrue used ↔ IsUsed prim known → IsInference prim widths known used (None ∷ None ∷ None ∷ [])
   misfit_refutes used ports open_port misfit exactly = record {
-    refutes_exactly = (λ is. record { used = exactly.0 is; within = ports; open_port = open_port; no_tuple = misfit_matches_none misfit }, λ r. exactly.1 r.used);
-    forces_exactly = λ p v. (λ e. absurd (no_word p v e), λ f. absurd (misfit_matches_none misfit f.some_tuple.0 f.some_tuple.1 f.some_tuple.2));
+    refutes_exactly = (λ is. record { used = exactly.0 is; within = ports; open_port = open_port; no_tuple = λ t tuple matches. misfit (matched_words_fit t tuple matches) }, λ r. exactly.1 r.used);
+    forces_exactly = λ p v. (λ e. absurd (no_word p v e), λ f. absurd (misfit (matched_words_fit f.some_tuple.0 f.some_tuple.1 f.some_tuple.2)));
   }

@@ -36,15 +36,6 @@ abbrev pub GoesFrom : Option Fact → List Fact → Type 0
 GoesFrom None from = Unit {0}
 GoesFrom (Some f) from = IsIn from f
 
--- a known word does not fit the width at its place
-pub record IsMisfit (widths : List ℕ) (known : List (Option ℕ)) : Type 0 where
-  pub port : ℕ
-  pub width : ℕ
-  pub word : ℕ
-  pub width_there : slice_get widths port ≡ Some width
-  pub known_there : slice_get known port ≡ Some (Some word)
-  pub too_large : word < 2 ^ width → ⊥
-
 -- what was found stays
 abbrev pub Stays : List Inferred → List Inferred → Type 0
 Stays old new = (i : Inferred) → IsIn old i → IsIn new i

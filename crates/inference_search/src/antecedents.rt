@@ -82,26 +82,12 @@ pub fn antecedents_of(a: Option<Fact>, b: Option<Fact>, z: Option<Fact>) -> Ante
     }
 }
 
-/// Whether it is the same cell.
-pub fn is_same_cell(c: Cell, d: Cell) -> bool
-    ensures { IsTrue result ↔ (c ≡ d) }
-{
-    c == d
-}
-
-/// Whether these are not two words at one cell.
-fn are_alike(f: Fact, g: Fact) -> bool
-    ensures { IsTrue result ↔ (f.cell ≡ g.cell → f ≡ g) }
-{
-    !is_same_cell(f.cell, g.cell) || f == g
-}
-
 /// Whether these are not two words at one cell.
 fn agree(a: Option<Fact>, b: Option<Fact>) -> bool
     ensures { IsTrue result ↔ Agree a b }
 {
     match (a, b) {
-        (Some(f), Some(g)) => are_alike(f, g),
+        (Some(f), Some(g)) => f.agrees_with(g),
         _ => true,
     }
 }

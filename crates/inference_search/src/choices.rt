@@ -7,7 +7,6 @@ ghost use Rattle.circuit_model.specs.Closure.{fact};
 ghost use Rattle.environment_sets.specs.Lists.{IsIn};
 ghost use Rattle.inference_search.specs.Choices.{Finds, IsMade, AreThirdsDone, AreSecondsDone, AreAllDone, IsDoneFrom, AreChoices};
 
-use crate::antecedents::is_same_cell;
 use crate::asking::{Asking, add_choice};
 use crate::inferred::Inferred;
 use circuit_model::{Cell, Fact};
@@ -48,7 +47,7 @@ fn can_use(must: Option<Fact>, cells: [Cell; 3]) -> bool
         return true;
     };
     let [a, b, z] = cells;
-    is_same_cell(a, fact.cell) || is_same_cell(b, fact.cell) || is_same_cell(z, fact.cell)
+    a == fact.cell || b == fact.cell || z == fact.cell
 }
 
 /// What is tried at each place.
@@ -103,7 +102,7 @@ fn add_word_at(choices: &mut Vec<Option<u64>>, fact: Fact, cell: Cell) -> Result
     ensures stays { IfOk result (λ _. (o : Option ℕ) → IsIn choices.old.items o → IsIn choices.new.items o) }
     ensures word { IfOk result (λ _. fact.cell ≡ cell → IsIn choices.new.items (Some fact.value)) }
 {
-    if is_same_cell(fact.cell, cell) {
+    if fact.cell == cell {
         choices.push(Some(fact.value))?;
         return Ok(());
     }

@@ -1,10 +1,9 @@
 // What known words at the ports of an instance say.
 
 ghost use Rattle.std.specs.Prelude.{◌≡◌, ℕ, ◌<◌, ◌≤◌, ◌↔◌, IsTrue, MatchBool, Some, slice_get};
-ghost use Rattle.circuit_model.specs.Inference.{IsUsed, IsUnknownAt, IsInference};
+ghost use Rattle.circuit_model.specs.Inference.{IsUsed, IsUnknownAt, IsInference, WordsFit};
 ghost use Rattle.circuit_model.specs.Lawful.{IsLawfulInstance};
-ghost use Rattle.component_models.specs.Asking.{WordsFit, HasOpenPort};
-ghost use Rattle.inference_search.specs.Choices.{IsMisfit};
+ghost use Rattle.component_models.specs.Asking.{HasOpenPort};
 
 use circuit_model::{Instance, Prim};
 use component_models::{Inference, infer};
@@ -25,7 +24,7 @@ fn are_at_ports(ports: u8, known: [Option<u64>; 3]) -> bool
 
 /// Whether each known word fits the width at its port.
 fn are_fitting(widths: [Width; 3], known: [Option<u64>; 3]) -> bool
-    ensures { MatchBool result (WordsFit widths known) (IsMisfit widths known) }
+    ensures { MatchBool result (WordsFit widths known) (WordsFit widths known → ⊥) }
 {
     for port in 0..3 {
         if let Some(word) = known[port] {

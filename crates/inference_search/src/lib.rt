@@ -9,6 +9,5 @@ mod consequences;
 mod inferred;
 mod search;
 
-pub use antecedents::is_same_cell;
 pub use inferred::Inferred;
 pub use search::{find_made_by, find_uses};

@@ -7,7 +7,6 @@ ghost use Rattle.environment_sets.specs.Lists.{IsIn};
 ghost use Rattle.inference_search.specs.Choices.{Finds, IsClashOf, HasClashOf};
 ghost use Rattle.inference_search.specs.Found.{AreFound, AreMadeBy};
 
-use crate::antecedents::is_same_cell;
 use crate::components::{Search, add_slot, add_slots};
 use crate::inferred::Inferred;
 use assumption_slots::Slots;
@@ -84,7 +83,7 @@ fn add_other(facts: &mut Vec<Fact>, other: Fact, fact: Fact) -> Result<(), Alloc
     ensures stays { IfOk result (λ _. (g : Fact) → IsIn facts.old.items g → IsIn facts.new.items g) }
     ensures other { IfOk result (λ _. (other.cell ≡ fact.cell) ⊎ IsIn facts.new.items other) }
 {
-    if is_same_cell(other.cell, fact.cell) {
+    if other.cell == fact.cell {
         return Ok(());
     }
     facts.push(other)?;
@@ -106,7 +105,7 @@ fn clashes(alloc: Global, met: &[Fact], fact: Fact) -> Result<Vec<Inferred>, All
 fn add_clash(found: &mut Vec<Inferred>, fact: Fact, other: Fact) -> Result<(), AllocError>
     ensures { IfOk result (λ _. Finds (IsClashOf fact) (HasClashOf fact other) found.old.items found.new.items) }
 {
-    if !is_same_cell(other.cell, fact.cell) || other.value == fact.value {
+    if other.cell != fact.cell || other.value == fact.value {
         return Ok(());
     }
     found.push(Inferred {

@@ -37,7 +37,7 @@ fn is_at(nodes: &[Node], place: usize, fact: &Fact) -> bool
 }
 
 // The place of the fact's node, which is tried first where the hint says.
-fn place_of(nodes: &[Node], hint: usize, fact: &Fact) -> Option<usize>
+fn find(nodes: &[Node], hint: usize, fact: &Fact) -> Option<usize>
     requires { AreOnce nodes.now }
     ensures { result ≡ position (λ n. is_same n.fact fact.now) nodes.now }
 {
@@ -135,7 +135,7 @@ impl Nodes {
     fn has_within(&self, fact: &Fact, env: &Env) -> bool
         ensures { IsTrue result ↔ IsCovered (KeptIn self.now (Some fact.now)) (members env.now) }
     {
-        match place_of(&self.list, self.hint_of(fact), fact) {
+        match find(&self.list, self.hint_of(fact), fact) {
             Some(place) => self.list[place].label.covers(env),
             None => false,
         }
@@ -193,7 +193,7 @@ impl Nodes {
         ensures nogoods { self.new.nogoods ≡ self.old.nogoods }
         ensures facts { facts_of self.new.list.items ≡ facts_of self.old.list.items }
     {
-        let place = place_of(&self.list, self.hint_of(fact), fact).unwrap();
+        let place = find(&self.list, self.hint_of(fact), fact).unwrap();
         let node = &mut self.list[place];
         node.label.add(*env)?;
         Ok(())
@@ -219,7 +219,7 @@ impl Nodes {
     pub fn label(&self, fact: &Fact) -> Option<&Label>
         ensures { MatchOption result (label_in self.now.list.items fact.now ≡ []) (λ l. l.now ≡ label_in self.now.list.items fact.now) }
     {
-        match place_of(&self.list, self.hint_of(fact), fact) {
+        match find(&self.list, self.hint_of(fact), fact) {
             Some(place) => Some(&self.list[place].label),
             None => None,
         }

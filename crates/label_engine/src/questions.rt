@@ -18,7 +18,6 @@ use crate::engine::Engine;
 use crate::node::Node;
 use circuit_model::{Cell, Fact};
 use environment_sets::Env;
-use inference_search::is_same_cell;
 use std::alloc::{AllocError, Global};
 
 impl Engine {
@@ -108,7 +107,7 @@ fn is_above(last: Option<u64>, value: u64) -> bool
 fn is_left(node: &Node, cell: Cell, mask: &Env, last: Option<u64>) -> bool
     ensures { IsTrue result ↔ IsLeft cell (members mask.now) last node.now }
 {
-    is_same_cell(node.fact.cell, cell) && is_above(last, node.fact.value) && node.label.covers(mask)
+    node.fact.cell == cell && is_above(last, node.fact.value) && node.label.covers(mask)
 }
 
 // The lesser of the word and what was found before.

@@ -9,14 +9,11 @@ use Rattle.circuit_model.specs.declared.present.Component.{Component}
 use Rattle.circuit_model.specs.declared.limits.TheConstants.{LEAST_COST, MOST_COST}
 use Rattle.circuit_model.specs.Kinds.{class_of, are_one_class, block_in, MayAct}
 use Rattle.circuit_model.specs.Present.{PresentView, part_named, IsLawfulMode}
+use Rattle.environment_sets.proofs.Membership.{none_unless_some}
 use Rattle.netlist_text.specs.Lookups.{is_block, last_width, acting_kind_named}
 use Rattle.netlist_text.specs.Placing.{stuck_mode, acting_mode}
 use Rattle.netlist_text.proofs.Acting.{never}
 use Rattle.netlist_text.proofs.Names.{found_has_name}
-
-no_block : (o : Option ℕ) → is_some o ≡ false → o ≡ None
-no_block None h = refl
-no_block (Some b) h = cc
 
 plain : (own : Kind) (c : Class) → IsTrue (are_one_class (class_of own) c) → block_in own ≡ None
 plain kind.Buf c h = refl
@@ -40,7 +37,7 @@ module _ (s : PresentView) (name : List ℕ) (place : ℕ) (c : Component) (foun
     component = c;
     there = there;
     named = found_has_name (λ (p : Component). p.name) s.parts name place c found there;
-    plain = no_block (block_in c.kind) other;
+    plain = none_unless_some (block_in c.kind) other;
     mode = subst (λ (w : ℕ). value < 2 ^ w) is fits;
     cost_low = low;
     cost_high = high;

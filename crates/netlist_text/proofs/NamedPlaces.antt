@@ -10,12 +10,10 @@ use Rattle.std.proofs.lemmas.Option.{slice_get-get_or, slice_get_within, get_or_
 use Rattle.std.proofs.lemmas.Slice.Eq.{bytes_eq-Decides}
 use Rattle.environment_sets.specs.Lists.{IsIn, IsRising, AreDistinct}
 use Rattle.environment_sets.proofs.Membership.{IsIn-slice_get, map-IsIn}
+use Rattle.circuit_model.proofs.Presents.{other_bytes}
 
 same_bytes : (xs ys : List ℕ) → xs ≡ ys → bytes_eq xs ys ≡ true
 same_bytes xs ys e = (bytes_eq-Decides xs ys).1 e
-
-pub other_bytes : (xs ys : List ℕ) → (xs ≡ ys → ⊥) → bytes_eq xs ys ≡ false
-other_bytes xs ys apart = false_from_ne_true (bytes_eq xs ys) (λ e. apart ((bytes_eq-Decides xs ys).0 e))
 
 module _ {X : Type 0} where
   -- the element after the front

@@ -6,7 +6,7 @@ use Rattle.std.proofs.lemmas.List.Quantifiers.{position-Some}
 use Rattle.std.proofs.lemmas.Option.{get_or_from_slice_get}
 use Rattle.std.proofs.lemmas.Slice.Eq.{bytes_eq-Decides}
 use Rattle.environment_sets.specs.Lists.{IsIn, AreDistinct}
-use Rattle.environment_sets.proofs.Membership.{IsIn-right, map-IsIn}
+use Rattle.environment_sets.proofs.Membership.{none_found, IsIn-right, map-IsIn}
 use Rattle.environment_sets.proofs.Listings.{IsIn-get_or}
 use Rattle.circuit_model.specs.declared.present.Component.{Component}
 use Rattle.circuit_model.specs.declared.present.Net.{Net}
@@ -92,13 +92,9 @@ in_one_half [] ys z apart a b = elim a [ ]
 in_one_half (x ∷ xs) ys z apart (inl e) b = apart.0 z (IsIn-right xs ys z b) e
 in_one_half (x ∷ xs) ys z apart (inr a) b = in_one_half xs ys z apart.1 a b
 
-nothing : (o : Option ℕ) → ((j : ℕ) → o ≡ Some j → ⊥) → o ≡ None
-nothing None h = refl
-nothing (Some j) h = absurd (h j refl)
-
 -- a net's name is no component's
 pub net_is_no_part : (s : PresentView) → AreDistinct (names_of s) → (name : List ℕ) (i : ℕ) → net_named s name ≡ Some i → part_named s name ≡ None
 net_is_no_part s apart name i found =
-    nothing (part_named s name) (λ j also.
+    none_found (part_named s name) (λ j also.
     in_one_half (map (λ (n : Net). n.name) s.nets) (map (λ (p : Component). p.name) s.parts) name apart
     (found_is_in (λ (n : Net). n.name) s.nets name i found) (found_is_in (λ (p : Component). p.name) s.parts name j also))

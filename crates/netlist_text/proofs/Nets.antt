@@ -10,7 +10,7 @@ use Rattle.std.proofs.lemmas.Option.{slice_get_within, get_or_from_slice_get}
 use Rattle.std.proofs.lemmas.Slice.Eq.{bytes_eq-Decides}
 use Rattle.circuit_model.specs.Present.{PresentView, net_named}
 use Rattle.netlist_text.specs.Found.{AreNets}
-use Rattle.netlist_text.specs.Lookups.{place_of, places_of}
+use Rattle.netlist_text.specs.Lookups.{net_place, net_places}
 
 module _ (s : PresentView) (names : List (List ℕ)) (i : ℕ) (name : List ℕ) (at : slice_get names i ≡ Some name) where
   abbrev is_net : List ℕ → Bool
@@ -23,10 +23,10 @@ module _ (s : PresentView) (names : List (List ℕ)) (i : ℕ) (name : List ℕ)
   one_more_net row n before named there =
       let front : List (List ℕ) = take i names in
       let longer : take (i + 1) names ≡ front ++ name ∷ [] = take_more names i name (slice_get_within names i name at) ∙ ap (λ (x : List ℕ). front ++ x ∷ []) (get_or_from_slice_get names i name name at) in
-      let last : place_of s name ≡ n = rw named refl in
+      let last : net_place s name ≡ n = rw named refl in
       let known : list_all is_net (front ++ name ∷ []) ≡ true = list_all-append is_net front (name ∷ []) ∙ rw (before.known, named) refl in
-      let found : row ++ n ∷ [] ≡ places_of s (front ++ name ∷ []) =
-      ap (λ (xs : List ℕ). xs ++ n ∷ []) before.found ∙ (ap (λ (m : ℕ). places_of s front ++ m ∷ []) (sym last) ∙ sym (map-append (place_of s) front (name ∷ []))) in
+      let found : row ++ n ∷ [] ≡ net_places s (front ++ name ∷ []) =
+      ap (λ (xs : List ℕ). xs ++ n ∷ []) before.found ∙ (ap (λ (m : ℕ). net_places s front ++ m ∷ []) (sym last) ∙ sym (map-append (net_place s) front (name ∷ []))) in
       subst (λ (xs : List (List ℕ)). AreNets s xs (row ++ n ∷ [])) (sym longer)
       (record { known = known; found = found; within = All-push (λ place. place < length s.nets) row n before.within there })
 

@@ -14,6 +14,7 @@ use Rattle.circuit_model.specs.Present.{PresentView, IsLawful, block_named, with
 use Rattle.circuit_model.specs.declared.limits.TheConstants.{MOST_BLOCKS, MOST_PINS, MOST_INNERS}
 use Rattle.circuit_model.specs.declared.blocks.Inner.{Inner}
 use Rattle.circuit_model.specs.declared.present.Net.{Net}
+use Rattle.circuit_model.proofs.Changes.{All-front}
 use Rattle.netlist_text.specs.Lookups.{block_of, pins_of}
 use Rattle.netlist_text.specs.Show.{name_at, part_words, pin_words, inner_words, block_lines}
 use Rattle.netlist_text.specs.declared.requests.Change.TheVariants as change
@@ -23,7 +24,7 @@ use Rattle.netlist_text.proofs.ShownWords.{known_word, name_word, number_word}
 use Rattle.netlist_text.proofs.ReadBack.{define_asks, pin_asks, inside_asks, room_of_few}
 use Rattle.netlist_text.proofs.NamedPlaces.{at_seam, within_seam, All-seam, new_at_seam, position_at, position_new}
 use Rattle.netlist_text.proofs.NetNames.{net_name, found_all, known_all, fits_nets, has_number}
-use Rattle.netlist_text.proofs.SectionNets.{present_of, All-left}
+use Rattle.netlist_text.proofs.SectionNets.{present_of}
 use Rattle.netlist_text.proofs.SectionCosts.{change_at-seam}
 use Rattle.netlist_text.proofs.Sections.{section, line_section}
 
@@ -86,7 +87,7 @@ module _ (s : PresentView) (h : IsLawful s) where
         (tt, record { free = rw (not_yet, room) refl; made = refl })
 
     pin_names : All (λ n. is_name n ≡ true) (map net_name b.pins)
-    pin_names = All-left (λ n. is_name n ≡ true) (map net_name b.pins) (map inner_name b.inners) lawful_block.names
+    pin_names = All-front (λ n. is_name n ≡ true) (map net_name b.pins) (map inner_name b.inners) lawful_block.names
 
     pin_leads : (before : List Net) (p : Net) (after : List Net) → b.pins ≡ before ++ p ∷ after → Leads (with_it before []) (pin_words b.name p) (with_it (before ++ p ∷ []) [])
     pin_leads before p after split =

@@ -16,6 +16,7 @@ use Rattle.circuit_model.specs.declared.present.Component.{Component}
 use Rattle.circuit_model.specs.declared.present.DeclaredMode.{DeclaredMode}
 use Rattle.circuit_model.specs.declared.rules.Class.{Class}
 use Rattle.circuit_model.specs.declared.rules.Class.TheVariants.{OneInput, TwoInputs, Alone}
+use Rattle.circuit_model.proofs.Presents.{other_bytes}
 use Rattle.netlist_text.specs.Checks.{is_cost}
 use Rattle.netlist_text.specs.Lookups.{word_of_kind, acting_kind_named, may_act_as}
 use Rattle.netlist_text.specs.Parts.{part_named as part_word_named}
@@ -25,7 +26,7 @@ use Rattle.netlist_text.specs.declared.requests.Request.TheVariants as request
 use Rattle.netlist_text.proofs.Spaced.{Leads, AllLead, leads}
 use Rattle.netlist_text.proofs.ShownWords.{known_word, name_word, number_word, word_below}
 use Rattle.netlist_text.proofs.ReadBack.{stuck_asks, acts_asks}
-use Rattle.netlist_text.proofs.NamedPlaces.{within_seam, All-seam, All-place, position_at, slice_get-name, other_bytes}
+use Rattle.netlist_text.proofs.NamedPlaces.{within_seam, All-seam, All-place, position_at, slice_get-name}
 use Rattle.netlist_text.proofs.NetNames.{net_name, narrow}
 use Rattle.netlist_text.proofs.SectionNets.{present_of, part_name}
 use Rattle.netlist_text.proofs.SectionParts.{All-right}

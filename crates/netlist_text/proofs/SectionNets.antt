@@ -17,6 +17,7 @@ use Rattle.circuit_model.specs.declared.model.Fact.{Fact}
 use Rattle.circuit_model.specs.declared.present.Component.{Component}
 use Rattle.circuit_model.specs.declared.present.DeclaredMode.{DeclaredMode}
 use Rattle.circuit_model.specs.declared.present.Net.{Net}
+use Rattle.circuit_model.proofs.Changes.{All-front}
 use Rattle.netlist_text.specs.Show.{net_words}
 use Rattle.netlist_text.specs.declared.requests.Change.TheVariants as change
 use Rattle.netlist_text.specs.declared.requests.Request.TheVariants as request
@@ -26,10 +27,6 @@ use Rattle.netlist_text.proofs.ReadBack.{net_asks}
 use Rattle.netlist_text.proofs.NamedPlaces.{within_seam, All-seam, new_at_seam, position_new}
 use Rattle.netlist_text.proofs.NetNames.{net_name}
 use Rattle.netlist_text.proofs.Sections.{line_section}
-
-pub All-left : {X : Type 0} (P : X → Type 0) (xs ys : List X) → All P (xs ++ ys) → All P xs
-All-left P [] ys h = All-nil P
-All-left P (x ∷ xs) ys h = All-cons P x xs (All-head P x (xs ++ ys) h) (All-left P xs ys (All-tail P x (xs ++ ys) h))
 
 -- a present of these parts
 abbrev pub present_of : ℕ → List Net → List BlockView → List Component → List DeclaredMode → List Fact → PresentView
@@ -62,7 +59,7 @@ module _ (s : PresentView) (h : IsLawful s) where
         let Q : List (List ℕ) → Type 0 = All P in
         let names : List (List ℕ) = map net_name front ++ n.name ∷ map net_name rest in
         let all : names_of s ≡ names ++ map part_name s.parts = ap (λ ns. ns ++ map part_name s.parts) names_split in
-        All-seam P (map net_name front) (map net_name rest) n.name (All-left P names (map part_name s.parts) (subst Q all h.names))
+        All-seam P (map net_name front) (map net_name rest) n.name (All-front P names (map part_name s.parts) (subst Q all h.names))
 
     -- a net's line, read where the nets before it stand
     net_leads : Leads (present_of s.cycles front [] [] [] []) (net_words n) (present_of s.cycles (front ++ n ∷ []) [] [] [] [])

@@ -12,7 +12,8 @@ use Rattle.circuit_model.specs.Present.{PresentView, IsLawful, IsLawfulComponent
 use Rattle.circuit_model.specs.declared.limits.TheConstants.{MOST_PARTS, USUAL_COST}
 use Rattle.circuit_model.specs.declared.model.Instance.{Instance}
 use Rattle.circuit_model.specs.declared.present.Component.{Component}
-use Rattle.netlist_text.specs.Lookups.{places_of}
+use Rattle.circuit_model.proofs.Changes.{All-front}
+use Rattle.netlist_text.specs.Lookups.{net_places}
 use Rattle.netlist_text.specs.Placing.{component_at}
 use Rattle.netlist_text.specs.Show.{name_at, part_words}
 use Rattle.netlist_text.specs.declared.requests.Change.TheVariants as change
@@ -21,7 +22,7 @@ use Rattle.netlist_text.proofs.Spaced.{Leads, leads}
 use Rattle.netlist_text.proofs.ReadBack.{add_asks, room_of_few}
 use Rattle.netlist_text.proofs.NamedPlaces.{within_seam, All-seam, new_at_seam, position_new}
 use Rattle.netlist_text.proofs.NetNames.{net_name, found_all, known_all, fits_nets, has_number}
-use Rattle.netlist_text.proofs.SectionNets.{present_of, part_name, nets_distinct, All-left}
+use Rattle.netlist_text.proofs.SectionNets.{present_of, part_name, nets_distinct}
 
 -- the component at the usual cost
 abbrev pub usual : Component → Component
@@ -37,7 +38,7 @@ All-right P (x ∷ xs) ys h = All-right P xs ys (All-tail P x (xs ++ ys) h)
 
 module _ (s : PresentView) (h : IsLawful s) where
   pub net_names_are : All (λ n. is_name n ≡ true) (map net_name s.nets)
-  net_names_are = All-left (λ n. is_name n ≡ true) (map net_name s.nets) (map part_name s.parts) h.names
+  net_names_are = All-front (λ n. is_name n ≡ true) (map net_name s.nets) (map part_name s.parts) h.names
 
   -- the present with the nets and the definitions, and these components at the usual cost
   abbrev pub with_usual : List Component → PresentView
@@ -100,7 +101,7 @@ module _ (s : PresentView) (h : IsLawful s) where
           let l = lawful_part in
           let name = part_is_name in
           let fits = fits_nets s.nets net_names_are c.kind c.name c.nets name l.three l.nets plain l.unused (has_number s.nets h.widths c.kind c.nets l.value) in
-          let places : places_of s (map (name_at s.nets) c.nets) ≡ c.nets = found_all s.nets (nets_distinct s h) c.nets l.nets in
+          let places : net_places s (map (name_at s.nets) c.nets) ≡ c.nets = found_all s.nets (nets_distinct s h) c.nets l.nets in
           let few_enough : (n : ℕ) → n ≤ 5 → n ≤ 31 = λ n k. omega (arith, k) in
           let known = known_all s.nets (nets_distinct s h) c.nets l.nets in
           let widths : are_widths c.kind (map (width_of s) c.nets) ≡ true = l.widths in
@@ -110,6 +111,6 @@ module _ (s : PresentView) (h : IsLawful s) where
             tt,
             record {
               free = rw (no_net, no_part, known, places, widths, value, room_left) refl;
-              made = one_more (component_at s c.name c.kind (places_of s (map (name_at s.nets) c.nets))) (made_so ∙ ap (component_at s c.name c.kind) (sym places));
+              made = one_more (component_at s c.name c.kind (net_places s (map (name_at s.nets) c.nets))) (made_so ∙ ap (component_at s c.name c.kind) (sym places));
             },
           )

@@ -19,7 +19,7 @@ use Rattle.circuit_model.specs.declared.model.Kind.{Kind}
 use Rattle.circuit_model.specs.declared.model.Kind.TheVariants as kind
 use Rattle.circuit_model.specs.declared.present.Component.{Component}
 use Rattle.netlist_text.specs.Checks.{has_pins}
-use Rattle.netlist_text.specs.Lookups.{places_of}
+use Rattle.netlist_text.specs.Lookups.{net_places}
 use Rattle.netlist_text.specs.Show.{name_at, component_words, component_words_by}
 use Rattle.netlist_text.specs.declared.requests.Change.TheVariants as change
 use Rattle.netlist_text.specs.declared.requests.Request.TheVariants as request
@@ -113,7 +113,7 @@ module _ (s : PresentView) (h : IsLawful s) (front : List Component) (c : Compon
       let name = part_is_name s h front c rest e in
       let named : is_name b.name ≡ true = lb.name in
       let there : block_named (with_usual s h front) b.name ≡ Some block = position_at block_name s.blocks block b h.block_names (block-there s block u.there) in
-      let places : places_of s names ≡ c.pins = found_all s.nets (nets_distinct s h) c.pins u.nets_there in
+      let places : net_places s names ≡ c.pins = found_all s.nets (nets_distinct s h) c.pins u.nets_there in
       let known = known_all s.nets (nets_distinct s h) c.pins u.nets_there in
       let all_names : list_all is_name names ≡ true = are_names_at s.nets (net_names_are s h) c.pins u.nets_there in
       let size : length names ≡ length c.pins = length-map c.pins (name_at s.nets) in

@@ -8,7 +8,7 @@ use Rattle.circuit_model.specs.Kinds.{are_widths, fits_value}
 use Rattle.circuit_model.specs.Blocks.{BlockView, pin_named}
 use Rattle.circuit_model.specs.Present.{PresentView, net_named, part_named, named_in, block_named, width_of, reading_in}
 use Rattle.circuit_model.specs.declared.limits.TheConstants.{MOST_CYCLES, MOST_NETS, MOST_CELLS, MOST_PARTS, MOST_READINGS, LEAST_COST, MOST_COST, MOST_MODES, MOST_BLOCKS, MOST_PINS, MOST_INNERS}
-use Rattle.netlist_text.specs.Lookups.{place_of, places_of, widths_at, cell_of, is_component_with, is_block, last_width, may_act_as, block_of, is_in_use, has_name_inside, pins_of, pin_widths_at}
+use Rattle.netlist_text.specs.Lookups.{net_place, net_places, widths_at, cell_of, is_component_with, is_block, last_width, may_act_as, block_of, is_in_use, has_name_inside, pins_of, pin_widths_at}
 use Rattle.netlist_text.specs.declared.misfits.Misfit.{Misfit}
 use Rattle.netlist_text.specs.declared.misfits.Misfit.TheVariants.{NameTaken, UnknownNet, BadWidth, WidthsDisagree, BadCycle, ValueDoesNotFit, CyclesNotFirst, UnknownComponent, BadCost, BadMode, NetsFull, ComponentsFull, CellsFull, MeasurementsFull, ModesFull, BlocksFull, BlockFull, AlreadyMeasured, NotMeasured, UnknownBlock, BlockInUse, WrongPinCount}
 use Rattle.netlist_text.specs.declared.requests.Change.{Change}
@@ -57,8 +57,8 @@ abbrev pub checks_of_part : PresentView → List ℕ → Kind → List (List ℕ
 checks_of_part s name kind nets =
     check NameTaken (is_some (named_in s name))
     ∷ check UnknownNet (not (list_all (λ net. is_some (net_named s net)) nets))
-    ∷ check WidthsDisagree (not (are_widths kind (widths_at s (places_of s nets))))
-    ∷ check ValueDoesNotFit (not (fits_value kind (widths_at s (places_of s nets))))
+    ∷ check WidthsDisagree (not (are_widths kind (widths_at s (net_places s nets))))
+    ∷ check ValueDoesNotFit (not (fits_value kind (widths_at s (net_places s nets))))
     ∷ check ComponentsFull (nat_le MOST_PARTS (length s.parts))
     ∷ []
 
@@ -128,7 +128,7 @@ checks_of_use s block name nets =
     ∷ check NameTaken (is_some (named_in s name))
     ∷ check WrongPinCount (not (has_pins (block_of s block) (length nets)))
     ∷ check UnknownNet (not (list_all (λ net. is_some (net_named s net)) nets))
-    ∷ check WidthsDisagree (not (bytes_eq (widths_at s (places_of s nets)) (map (λ p. p.width) (block_of s block).pins)))
+    ∷ check WidthsDisagree (not (bytes_eq (widths_at s (net_places s nets)) (map (λ p. p.width) (block_of s block).pins)))
     ∷ check ComponentsFull (nat_le MOST_PARTS (length s.parts))
     ∷ []
 
@@ -144,7 +144,7 @@ abbrev pub checks_of_reading : PresentView → List ℕ → ℕ → ℕ → List
 checks_of_reading s net cycle value =
     check UnknownNet (not (is_some (net_named s net)))
     ∷ check BadCycle (not (nat_lt cycle s.cycles))
-    ∷ check ValueDoesNotFit (not (nat_lt value (2 ^ width_of s (place_of s net))))
+    ∷ check ValueDoesNotFit (not (nat_lt value (2 ^ width_of s (net_place s net))))
     ∷ check MeasurementsFull (nat_le MOST_READINGS (length s.readings))
     ∷ check AlreadyMeasured (is_some (reading_in s.readings (cell_of s net cycle)))
     ∷ []

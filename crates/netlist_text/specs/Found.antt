@@ -4,7 +4,7 @@ use Rattle.std.specs.List.{All, list_all}
 use Rattle.circuit_model.specs.Blocks.{BlockView, pin_named}
 use Rattle.circuit_model.specs.Present.{PresentView, net_named}
 use Rattle.netlist_text.specs.Checks.{checks_of_change, first_misfit}
-use Rattle.netlist_text.specs.Lookups.{places_of, pins_of}
+use Rattle.netlist_text.specs.Lookups.{net_places, pins_of}
 use Rattle.netlist_text.specs.Placing.{changed, IsRefusedBy}
 use Rattle.netlist_text.specs.declared.misfits.Misfit.{Misfit}
 use Rattle.netlist_text.specs.declared.requests.Change.{Change}
@@ -12,7 +12,7 @@ use Rattle.netlist_text.specs.declared.requests.Change.{Change}
 -- each name is a net's, and these are their places
 pub record AreNets (s : PresentView) (names : List (List ℕ)) (places : List ℕ) : Type 0 where
   pub known : list_all (λ name. is_some (net_named s name)) names ≡ true
-  pub found : places ≡ places_of s names
+  pub found : places ≡ net_places s names
   pub within : All (λ place. place < length s.nets) places
 
 -- each name is a pin's of the definition, and these are their places

@@ -14,12 +14,12 @@ use Rattle.netlist_text.specs.declared.parts.PartWord.{PartWord}
 use Rattle.netlist_text.specs.declared.parts.PartWord.TheVariants as word
 
 -- the place of the net with the name, where there is one
-abbrev pub place_of : PresentView → List ℕ → ℕ
-place_of s name = unwrap_or (net_named s name) 0
+abbrev pub net_place : PresentView → List ℕ → ℕ
+net_place s name = unwrap_or (net_named s name) 0
 
 -- the places of the nets with the names
-abbrev pub places_of : PresentView → List (List ℕ) → List ℕ
-places_of s names = map (place_of s) names
+abbrev pub net_places : PresentView → List (List ℕ) → List ℕ
+net_places s names = map (net_place s) names
 
 -- the widths of the nets at the places
 abbrev pub widths_at : PresentView → List ℕ → List ℕ
@@ -27,7 +27,7 @@ widths_at s places = map (width_of s) places
 
 -- the cell of the net with the name at the cycle
 abbrev pub cell_of : PresentView → List ℕ → ℕ → Cell
-cell_of s net cycle = cell_at cycle (place_of s net)
+cell_of s net cycle = cell_at cycle (net_place s net)
 
 -- the place of the component with the name, where there is one
 abbrev pub part_of : PresentView → List ℕ → ℕ

@@ -12,7 +12,7 @@ use Rattle.circuit_model.specs.Kinds.{instances}
 use Rattle.circuit_model.specs.Opening.{block_component}
 use Rattle.circuit_model.specs.Present.{PresentView, with_cycles, with_net, with_part, with_cost, with_mode, with_block, with_pin, with_inner, with_standing, without_standing}
 use Rattle.netlist_text.specs.Checks.{checks_of_change, first_misfit}
-use Rattle.netlist_text.specs.Lookups.{places_of, widths_at, cell_of, part_of, acting_kind_named, block_place, block_of, pins_of}
+use Rattle.netlist_text.specs.Lookups.{net_places, widths_at, cell_of, part_of, acting_kind_named, block_place, block_of, pins_of}
 use Rattle.netlist_text.specs.declared.misfits.Misfit.{Misfit}
 use Rattle.netlist_text.specs.declared.misfits.Misfit.TheVariants as misfit
 use Rattle.netlist_text.specs.declared.requests.Change.{Change}
@@ -38,14 +38,14 @@ inner_at name kind places = record { name = name; kind = kind; pins = places }
 abbrev pub changed : PresentView → Change → PresentView
 changed s (Cycles count) = with_cycles count s
 changed s (Net name width) = with_net (record { name = name; width = width }) s
-changed s (Add name kind nets) = with_part (component_at s name kind (places_of s nets)) s
+changed s (Add name kind nets) = with_part (component_at s name kind (net_places s nets)) s
 changed s (Cost name cost) = with_cost (part_of s name) cost s
 changed s (Stuck name value cost) = with_mode (stuck_mode name value cost) s
 changed s (Acts name kind cost) = with_mode (acting_mode name kind cost) s
 changed s (Define block) = with_block block s
 changed s (Pin block name width) = with_pin (block_place s block) (record { name = name; width = width }) s
 changed s (Inside block name kind nets) = with_inner (block_place s block) (inner_at name kind (pins_of (block_of s block) nets)) s
-changed s (UseBlock block name nets) = with_part (block_component s (block_place s block) name (places_of s nets)) s
+changed s (UseBlock block name nets) = with_part (block_component s (block_place s block) name (net_places s nets)) s
 changed s (Measure net cycle value) = with_standing (fact (cell_of s net cycle) value) s
 changed s (Retract net cycle) = without_standing (cell_of s net cycle) s
 changed s Undo = s

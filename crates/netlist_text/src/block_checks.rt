@@ -10,7 +10,7 @@ ghost use Rattle.netlist_text.specs.declared.misfits.Misfit.TheVariants.{WidthsD
 ghost use Rattle.netlist_text.specs.Checks as spec;
 ghost use Rattle.netlist_text.specs.Found.{ArePins, AreNets};
 ghost use Rattle.netlist_text.specs.Placing.{inner_at};
-ghost use Rattle.netlist_text.specs.Lookups.{block_place, block_of, has_name_inside, pins_of, pin_widths_at, widths_at, places_of};
+ghost use Rattle.netlist_text.specs.Lookups.{block_place, block_of, has_name_inside, pins_of, pin_widths_at, widths_at, net_places};
 
 use crate::checks::width_of_bits;
 use crate::finding::{has_name, net_of, width_at};

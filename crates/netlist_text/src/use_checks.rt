@@ -6,7 +6,7 @@ ghost use Rattle.circuit_model.specs.Present.{block_at, net_named};
 ghost use Rattle.block_tree.specs.Using.{MayUse};
 ghost use Rattle.netlist_text.specs.Checks as spec;
 ghost use Rattle.netlist_text.specs.Found.{AreNets};
-ghost use Rattle.netlist_text.specs.Lookups.{block_place, places_of, widths_at};
+ghost use Rattle.netlist_text.specs.Lookups.{block_place, net_places, widths_at};
 
 use crate::block_checks::pin_width_at;
 use crate::finding::{has_name, net_of, width_at};
@@ -60,7 +60,7 @@ pub fn check_use(
     nets: &NameList,
 ) -> Result<(u16, Pins), Misfit>
     ensures checked { MatchResult result
-        (λ c. (spec.first_misfit (spec.checks_of_use present.now block.now name.now nets.now) ≡ None) × (c.0 ≡ block_place present.now block.now) × (c.1 ≡ places_of present.now nets.now))
+        (λ c. (spec.first_misfit (spec.checks_of_use present.now block.now name.now nets.now) ≡ None) × (c.0 ≡ block_place present.now block.now) × (c.1 ≡ net_places present.now nets.now))
         (λ m. spec.first_misfit (spec.checks_of_use present.now block.now name.now nets.now) ≡ Some m) }
     ensures usable { IfOk result (λ c. MayUse present.now c.0 c.1) }
 {

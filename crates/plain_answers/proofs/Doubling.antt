@@ -8,7 +8,7 @@ use Rattle.std.proofs.lemmas.Bool.{cases_lt, or_left, or_right, or_cases, and_pa
 use Rattle.std.proofs.lemmas.Bool.Decides.{nat_tests}
 use Rattle.environment_sets.specs.Sets.{Set}
 use Rattle.environment_sets.specs.Lists.{IsIn, AreDistinct, IsRoster}
-use Rattle.environment_sets.proofs.Membership.{same_bool}
+use Rattle.environment_sets.proofs.Membership.{same_bool, roster_alike}
 use Rattle.circuit_model.specs.declared.model.Cell.{Cell}
 use Rattle.circuit_model.specs.declared.model.Fact.{Fact}
 use Rattle.circuit_model.specs.declared.model.Assumption.TheVariants.{Reading}
@@ -24,7 +24,6 @@ use Rattle.plain_answers.proofs.WithReadings.{is_some-map, is_some-part}
 use Rattle.circuit_model.proofs.SameCells.{same_cell, cell_itself}
 use Rattle.circuit_model.proofs.Readings.{Measured, measured_at, rising_apart, reading_in-at}
 use Rattle.plain_answers.specs.Subsets.{sets, IsWithin, IsPart, IsPartOrCell, is_same, adding, doubling}
-use Rattle.plain_answers.proofs.KeptLists.{same_roster}
 
 same_place : (k n : Place) → IsTrue (is_same k n) → k ≡ n
 same_place (AtPart k) (AtPart n) h = let e : k ≡ n = grind (arith, nat_tests) in ap AtPart e
@@ -214,7 +213,7 @@ module _ (s : PresentView) (lawful : IsLawful s) (n : ℕ) (f : Fact) (at : slic
 
 -- components alone
 pub parts_first : (s : PresentView) (Es : List (Set Place)) → IsRoster (IsWithin (IsPart (length s.parts))) Es → IsRoster (IsWithin (IsPartOrCell s 0)) Es
-parts_first s Es all = same_roster (IsWithin (IsPart (length s.parts))) (IsWithin (IsPartOrCell s 0)) Es (λ E within k m. to k (within k m)) (λ E within k m. from k (within k m)) all where
+parts_first s Es all = roster_alike (IsWithin (IsPart (length s.parts))) (IsWithin (IsPartOrCell s 0)) Es (λ E within k m. to k (within k m)) (λ E within k m. from k (within k m)) all where
   to : (k : Place) → IsPart (length s.parts) k → IsPartOrCell s 0 k
   to (AtPart k) h = h
   to (AtCell c) h = absurd h
@@ -242,4 +241,4 @@ from_stock s (AtCell c) h = by_reading (reading_in s.readings c) refl (sym (is_s
 
 -- all components and all measured cells are the stock
 pub stock_last : (s : PresentView) → IsLawful s → (Es : List (Set Place)) → IsRoster (IsWithin (IsPartOrCell s (length s.readings))) Es → IsRoster (IsEnvironment (stock s)) Es
-stock_last s lawful Es all = same_roster (IsWithin (IsPartOrCell s (length s.readings))) (IsEnvironment (stock s)) Es (λ E within k m. in_stock s lawful k (within k m)) (λ E within k m. from_stock s k (within k m)) all
+stock_last s lawful Es all = roster_alike (IsWithin (IsPartOrCell s (length s.readings))) (IsEnvironment (stock s)) Es (λ E within k m. in_stock s lawful k (within k m)) (λ E within k m. from_stock s k (within k m)) all

@@ -2,6 +2,7 @@
 use Rattle.std.proofs.Common.{◌≡◌, ◌⊎◌, inl, inr, List, [], ◌∷◌, ◌++◌, refl, sym, ap, subst}
 use Rattle.environment_sets.specs.Sets.{Set}
 use Rattle.environment_sets.specs.Lists.{IsIn, AreDistinct, IsRoster}
+use Rattle.environment_sets.proofs.Membership.{roster_alike}
 use Rattle.circuit_model.specs.declared.model.Fact.{Fact}
 use Rattle.circuit_model.specs.Stock.{IsEnvironment, IsRefutedBy, IsInLabel, IsNogood}
 use Rattle.circuit_model.specs.Diagnoses.{Place}
@@ -51,16 +52,10 @@ module _ {X : Type 0} where
     );
   }
 
-  pub same_roster : (P Q : X → Type 0) (xs : List X) → ((x : X) → P x → Q x) → ((x : X) → Q x → P x) → IsRoster P xs → IsRoster Q xs
-  same_roster P Q xs to from all = record {
-    distinct = all.distinct;
-    exact = λ x. (λ h. to x ((all.exact x).0 h), λ h. (all.exact x).1 (from x h));
-  }
-
 -- the least of those that have the fact are its label
 pub label_listed : (s : PresentView) (f : Fact) (all having ys : List (Set Place)) → IsRoster (IsEnvironment (stock s)) all → Keeps (HasFact s f) all having → Keeps (IsLeastIn having) having ys → IsRoster (IsInLabel (stock s) f) ys
 label_listed s f all having ys roster has least =
-    same_roster (λ E. (IsEnvironment (stock s) E × HasFact s f E) × IsLeastIn having E) (IsInLabel (stock s) f) ys to from (kept_roster (IsLeastIn having) (λ E. IsEnvironment (stock s) E × HasFact s f E) having ys some least)
+    roster_alike (λ E. (IsEnvironment (stock s) E × HasFact s f E) × IsLeastIn having E) (IsInLabel (stock s) f) ys to from (kept_roster (IsLeastIn having) (λ E. IsEnvironment (stock s) E × HasFact s f E) having ys some least)
   where
     some : IsRoster (λ E. IsEnvironment (stock s) E × HasFact s f E) having
     some = kept_roster (HasFact s f) (IsEnvironment (stock s)) all having roster has
@@ -84,7 +79,7 @@ label_listed s f all having ys roster has least =
 -- the least of those that clash are the nogoods
 pub nogoods_listed : (s : PresentView) (all clashing ys : List (Set Place)) → IsRoster (IsEnvironment (stock s)) all → Keeps (IsRefutedBy (stock s)) all clashing → Keeps (IsLeastIn clashing) clashing ys → IsRoster (IsNogood (stock s)) ys
 nogoods_listed s all clashing ys roster clash least =
-    same_roster (λ E. (IsEnvironment (stock s) E × IsRefutedBy (stock s) E) × IsLeastIn clashing E) (IsNogood (stock s)) ys to from (kept_roster (IsLeastIn clashing) (λ E. IsEnvironment (stock s) E × IsRefutedBy (stock s) E) clashing ys some least)
+    roster_alike (λ E. (IsEnvironment (stock s) E × IsRefutedBy (stock s) E) × IsLeastIn clashing E) (IsNogood (stock s)) ys to from (kept_roster (IsLeastIn clashing) (λ E. IsEnvironment (stock s) E × IsRefutedBy (stock s) E) clashing ys some least)
   where
     some : IsRoster (λ E. IsEnvironment (stock s) E × IsRefutedBy (stock s) E) clashing
     some = kept_roster (IsRefutedBy (stock s)) (IsEnvironment (stock s)) all clashing roster clash

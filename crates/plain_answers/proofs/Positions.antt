@@ -2,11 +2,11 @@
 use Rattle.std.proofs.Common.{◌≡◌, inl, inr, ℕ, ◌+◌, ◌<◌, Bool, true, false, ◌||◌, ◌&&◌, not, nat_lt, IsTrue, is_some, List, [], ◌∷◌, map, length, Option, refl, sym, ap, subst, ◌∙◌, true≢false, arith}
 use Rattle.std.proofs.Math.Path.{fun_ext}
 use Rattle.std.proofs.lemmas.List.{length-map}
-use Rattle.std.proofs.lemmas.Bool.{cases_lt, and_parts, and_from}
+use Rattle.std.proofs.lemmas.Bool.{cases_lt, and_parts, and_from, ltb-true, lt-ltb}
 use Rattle.std.proofs.lemmas.Bool.Decides.{nat_tests}
 use Rattle.environment_sets.specs.Sets.{Set, ◌⊆◌, IsBelow, IsMinimal, others}
 use Rattle.environment_sets.specs.Lists.{IsIn, AreDistinct, IsRoster}
-use Rattle.environment_sets.proofs.Membership.{same_bool, map-IsIn, IsIn-map}
+use Rattle.environment_sets.proofs.Membership.{same_bool, map-IsIn, IsIn-map, roster_alike}
 use Rattle.circuit_model.specs.declared.model.Cell.{Cell}
 use Rattle.circuit_model.specs.declared.model.Assumption.{Assumption}
 use Rattle.circuit_model.specs.declared.model.Assumption.TheVariants.{Reading}
@@ -15,13 +15,14 @@ use Rattle.circuit_model.specs.declared.present.Component.{Component}
 use Rattle.circuit_model.specs.Closure.{fact}
 use Rattle.circuit_model.specs.Diagnoses.{Place, AtPart, AtCell, with_readings, AreRefuted, IsConflict, IsDiagnosis}
 use Rattle.circuit_model.specs.Present.{PresentView, reading_in, circuit_of}
+use Rattle.circuit_model.proofs.Presents.{count_parts}
 use Rattle.plain_answers.specs.declared.environment.Environment.{Environment}
 use Rattle.plain_answers.specs.Members.{members, IsPartsOf, IsWithReadings}
 use Rattle.plain_answers.specs.Sets.{IsEmpty, IsWith}
 use Rattle.plain_answers.proofs.WithReadings.{is_some-map}
 use Rattle.plain_answers.specs.Subsets.{sets, IsWithin, IsPart, Keeps}
 use Rattle.plain_answers.specs.Tests.{positions, position_sets, AreParts, AreOthers, IsDecided, IsRepaired, IsLeastIn}
-use Rattle.plain_answers.proofs.KeptLists.{kept_roster, same_roster}
+use Rattle.plain_answers.proofs.KeptLists.{kept_roster}
 
 abbrev places : Set ℕ → Place → Bool
 places C (AtPart i) = C i
@@ -82,7 +83,7 @@ module _ (n : ℕ) where
   -- the least sets of components
   pub minimal_listed : (R : Set ℕ → Type 0) (all kept ys : List (Set Place)) → IsRoster (IsWithin (IsPart n)) all → Keeps (λ E. R (positions E)) all kept → Keeps (IsLeastIn kept) kept ys → IsRoster (λ C. IsBelow n C × IsMinimal R C) (map positions ys)
   minimal_listed R all kept ys roster keeps least =
-      positions_roster (IsMinimal R) ys (same_roster (λ E. (IsWithin (IsPart n) E × R (positions E)) × IsLeastIn kept E) (λ E. IsWithin (IsPart n) E × IsMinimal R (positions E)) ys to from (kept_roster (IsLeastIn kept) (λ E. IsWithin (IsPart n) E × R (positions E)) kept ys some least))
+      positions_roster (IsMinimal R) ys (roster_alike (λ E. (IsWithin (IsPart n) E × R (positions E)) × IsLeastIn kept E) (λ E. IsWithin (IsPart n) E × IsMinimal R (positions E)) ys to from (kept_roster (IsLeastIn kept) (λ E. IsWithin (IsPart n) E × R (positions E)) kept ys some least))
     where
       some : IsRoster (λ E. IsWithin (IsPart n) E × R (positions E)) kept
       some = kept_roster (λ E. R (positions E)) (IsWithin (IsPart n)) all kept roster keeps
@@ -100,9 +101,6 @@ module _ (n : ℕ) where
         smallest : (F : Set Place) → IsIn kept F → F ⊆ E → E ⊆ F
         smallest F inside within (AtPart i) m = h.1.least (positions F) (λ i m. within (AtPart i) m) ((some.exact F).0 inside).1 i m
         smallest F inside within (AtCell c) m = absurd (h.0 (AtCell c) m)
-
-count_parts : (s : PresentView) → length s.parts ≡ length (circuit_of s).parts
-count_parts s = sym (length-map s.parts (λ (c : Component). c.part))
 
 module _ (s : PresentView) (all kept ys : List (Set Place)) (roster : IsRoster (IsWithin (IsPart (length s.parts))) all) where
   counted : IsRoster (IsWithin (IsPart (length (circuit_of s).parts))) all
@@ -137,31 +135,25 @@ pub record AreOthersBelow (n : ℕ) (E F : Set Place) : Type 0 where
   pub cells : AreParts F
 
 module _ (n : ℕ) (E : Set Place) where
-  test_below : (k n : ℕ) → IsTrue (nat_lt k n) → k < n
-  test_below k n h = grind (arith, nat_tests)
-
-  below_test : (k n : ℕ) → k < n → IsTrue (nat_lt k n)
-  below_test k n h = grind (arith, nat_tests)
-
   pub others_more : (F G : Set Place) → IsTrue (not (E (AtPart n))) → IsWith F (AtPart n) G → AreOthersBelow n E F → AreOthersBelow (n + 1) E G
   others_more F G without with below = record { parts = λ k. same_bool _ _ (to k) (from k); cells = cells } where
     to : (k : ℕ) → IsTrue (G (AtPart k)) → IsTrue (nat_lt k (n + 1) && not (E (AtPart k)))
     to k h = elim (with.only (AtPart k) h) [
       | inl m ↦
           let old : IsTrue (nat_lt k n) × IsTrue (not (E (AtPart k))) = and_parts (nat_lt k n) (not (E (AtPart k))) (sym (below.parts k) ∙ m) in
-          let low = test_below k n old.0 in
-          and_from _ _ (below_test k (n + 1) (omega arith)) old.1
+          let low = ltb-true k n old.0 in
+          and_from _ _ (lt-ltb k (n + 1) (omega arith)) old.1
       | inr e ↦
           let same : k ≡ n = cc in
-          and_from _ _ (below_test k (n + 1) (omega arith)) (subst (λ (k : ℕ). IsTrue (not (E (AtPart k)))) (sym same) without)
+          and_from _ _ (lt-ltb k (n + 1) (omega arith)) (subst (λ (k : ℕ). IsTrue (not (E (AtPart k)))) (sym same) without)
     ]
 
     from : (k : ℕ) → IsTrue (nat_lt k (n + 1) && not (E (AtPart k))) → IsTrue (G (AtPart k))
     from k h =
         let new : IsTrue (nat_lt k (n + 1)) × IsTrue (not (E (AtPart k))) = and_parts (nat_lt k (n + 1)) (not (E (AtPart k))) h in
-        let low = test_below k (n + 1) new.0 in
+        let low = ltb-true k (n + 1) new.0 in
         elim (cases_lt k n) [
-          | inl inside ↦ with.more (AtPart k) (below.parts k ∙ and_from _ _ (below_test k n inside) new.1)
+          | inl inside ↦ with.more (AtPart k) (below.parts k ∙ and_from _ _ (lt-ltb k n inside) new.1)
           | inr past ↦ let same : k ≡ n = omega arith in subst (λ (k : ℕ). IsTrue (G (AtPart k))) (sym same) with.has
         ]
 
@@ -175,15 +167,15 @@ module _ (n : ℕ) (E : Set Place) where
     to : (k : ℕ) → IsTrue (nat_lt k n && not (E (AtPart k))) → IsTrue (nat_lt k (n + 1) && not (E (AtPart k)))
     to k h =
         let old : IsTrue (nat_lt k n) × IsTrue (not (E (AtPart k))) = and_parts (nat_lt k n) (not (E (AtPart k))) h in
-        let low = test_below k n old.0 in
-        and_from _ _ (below_test k (n + 1) (omega arith)) old.1
+        let low = ltb-true k n old.0 in
+        and_from _ _ (lt-ltb k (n + 1) (omega arith)) old.1
 
     from : (k : ℕ) → IsTrue (nat_lt k (n + 1) && not (E (AtPart k))) → IsTrue (nat_lt k n && not (E (AtPart k)))
     from k h =
         let new : IsTrue (nat_lt k (n + 1)) × IsTrue (not (E (AtPart k))) = and_parts (nat_lt k (n + 1)) (not (E (AtPart k))) h in
-        let low = test_below k (n + 1) new.0 in
+        let low = ltb-true k (n + 1) new.0 in
         elim (cases_lt k n) [
-          | inl inside ↦ and_from _ _ (below_test k n inside) new.1
+          | inl inside ↦ and_from _ _ (lt-ltb k n inside) new.1
           | inr past ↦ let same : k ≡ n = omega arith in absurd (true≢false (sym (subst (λ (k : ℕ). IsTrue (not (E (AtPart k)))) same new.1) ∙ has))
         ]
 
@@ -200,7 +192,7 @@ repaired_or_not s E F b are decided = by_answer b (subst (λ (C : Set ℕ). IsDe
 -- no components yet
 pub others_none : (E F : Set Place) → IsEmpty F → AreOthersBelow 0 E F
 others_none E F empty = record {
-  parts = λ k. same_bool (F (AtPart k)) (nat_lt k 0 && not (E (AtPart k))) (λ h. absurd (empty (AtPart k) h)) (λ h. let low = test_below 0 E k 0 (and_parts (nat_lt k 0) (not (E (AtPart k))) h).0 in absurd (omega arith));
+  parts = λ k. same_bool (F (AtPart k)) (nat_lt k 0 && not (E (AtPart k))) (λ h. absurd (empty (AtPart k) h)) (λ h. let low = ltb-true 0 E k 0 (and_parts (nat_lt k 0) (not (E (AtPart k))) h).0 in absurd (omega arith));
   cells = λ c. same_bool (F (AtCell c)) false (λ h. absurd (empty (AtCell c) h)) (λ h. absurd (true≢false (sym h)));
 }
 

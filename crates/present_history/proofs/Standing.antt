@@ -3,22 +3,18 @@ use Rattle.std.proofs.Common.{◌≡◌, ℕ, ◌+◌, ◌==◌, inl, inr, Bool,
 use Rattle.std.specs.Option.{option_map_or}
 use Rattle.std.proofs.lemmas.Bool.{cond_both, cond-true, cond-false, eqb-true, eq-eqb, false_from_ne_true}
 use Rattle.environment_sets.specs.Lists.{IsIn, IsRising}
-use Rattle.environment_sets.proofs.Membership.{IsIn-slice_get, slice_get-IsIn}
+use Rattle.environment_sets.proofs.Membership.{none_found, IsIn-slice_get, slice_get-IsIn}
 use Rattle.circuit_model.specs.declared.model.Cell.{Cell}
 use Rattle.circuit_model.specs.declared.model.Fact.{Fact}
 use Rattle.circuit_model.specs.Closure.{fact}
 use Rattle.circuit_model.specs.Present.{PresentView, is_cell, is_cell_before, reading_in, with_reading, without_reading, with_standing, without_standing, IsFactOf, IsLawful}
 use Rattle.circuit_model.proofs.SameCells.{same_cell, cell_itself, not_before_itself, before_trans}
-use Rattle.circuit_model.proofs.Readings.{ComesBefore, measured_at, reading_in-with_reading, reading_in-at, IsFactOf-at}
+use Rattle.circuit_model.proofs.Readings.{ComesBefore, measured_later, measured_at, reading_in-with_reading, reading_in-at, IsFactOf-at}
 use Rattle.present_history.specs.Earlier.{measures}
 use Rattle.present_history.specs.Undoing.{MayStand}
 
 fact_by : (f : Fact) (c : Cell) (v : ℕ) → f.cell ≡ c → f.value ≡ v → f ≡ fact c v
 fact_by f c v cell value = ap₂ fact cell value
-
-measured_later : (t : Bool) (v : ℕ) (o : Option ℕ) → cond t (Some v) o ≡ None → (t ≡ false) × (o ≡ None)
-measured_later true v o e = cc
-measured_later false v o e = (refl, e)
 
 -- a measured word is one of the measurements
 pub IsIn-reading_in : (rs : List Fact) (c : Cell) (v : ℕ) → reading_in rs c ≡ Some v → IsIn rs (fact c v)
@@ -47,14 +43,10 @@ put_first g (h ∷ rs) rising = cond-true (is_cell_before g.cell h.cell) (g ∷ 
 never_both : (c d : Cell) → is_cell_before c d ≡ true → is_cell_before d c ≡ true → ⊥
 never_both c d one other = not_before_itself c (before_trans c d c one other)
 
-is_none : (o : Option ℕ) → ((v : ℕ) → o ≡ Some v → ⊥) → o ≡ None
-is_none None h = refl
-is_none (Some v) h = absurd (h v refl)
-
 module _ (c : Cell) where
   -- the cell of a measurement has no other one
   none_later : (g : Fact) (rs : List Fact) → IsRising ComesBefore (g ∷ rs) → is_cell g.cell c ≡ true → reading_in rs c ≡ None
-  none_later g rs rising here = is_none (reading_in rs c) (λ v e.
+  none_later g rs rising here = none_found (reading_in rs c) (λ v e.
       let before : ComesBefore g (fact c v) = rising.0 (fact c v) (IsIn-reading_in rs c v e) in
       not_before_itself c (subst (λ (d : Cell). is_cell_before d c ≡ true) (same_cell g.cell c here) before))
 

@@ -20,7 +20,7 @@ use Rattle.circuit_model.proofs.Moves.{All-read}
 use Rattle.circuit_model.proofs.Presents.{IsUnusedPart-with_part}
 use Rattle.std.proofs.lemmas.List.{length_push}
 use Rattle.netlist_text.specs.Checks.{checks_of_change, first_misfit}
-use Rattle.netlist_text.specs.Lookups.{cell_of, block_place, block_of, places_of, pins_of}
+use Rattle.netlist_text.specs.Lookups.{cell_of, block_place, block_of, net_places, pins_of}
 use Rattle.netlist_text.specs.Placing.{changed, component_at, stuck_mode, acting_mode, inner_at, IsOfPresent}
 use Rattle.netlist_text.specs.declared.requests.Change.{Change}
 use Rattle.netlist_text.specs.declared.requests.Change.TheVariants as asked
@@ -129,14 +129,14 @@ module _ (s : PresentView) (h : IsLawful s) where
 pub taken_back : (s : PresentView) (change : Change) → IsLawful s → IsOfPresent change → first_misfit (checks_of_change s change) ≡ None → TakesBack (undoing_of s change) (changed s change) s
 taken_back s (asked.Cycles count) h of free = let p = none_applies (checks_of_change s (asked.Cycles count)) free in cycles_back s h count (none_below (length s.nets) p.1.0)
 taken_back s (asked.Net name width) h of free = net_back s h (record { name = name; width = width })
-taken_back s (asked.Add name kind nets) h of free = let p = none_applies (checks_of_change s (asked.Add name kind nets)) free in part_back s h (component_at s name kind (places_of s nets)) (nothing_there (named_in s name) p.0)
+taken_back s (asked.Add name kind nets) h of free = let p = none_applies (checks_of_change s (asked.Add name kind nets)) free in part_back s h (component_at s name kind (net_places s nets)) (nothing_there (named_in s name) p.0)
 taken_back s (asked.Cost name cost) h of free = let p = none_applies (checks_of_change s (asked.Cost name cost)) free in cost_back s h (part_named s name) cost p.0 (found_within (λ p. bytes_eq p.name name) s.parts p.0)
 taken_back s (asked.Stuck name value cost) h of free = mode_back s h (stuck_mode name value cost)
 taken_back s (asked.Acts name kind cost) h of free = mode_back s h (acting_mode name kind cost)
 taken_back s (asked.Define block) h of free = block_back s h block
 taken_back s (asked.Pin block name width) h of free = let p = none_applies (checks_of_change s (asked.Pin block name width)) free in pin_back s h (block_place s block) (record { name = name; width = width }) (found_within (λ b. bytes_eq b.name block) s.blocks p.0) p.1.1.1.0
 taken_back s (asked.Inside block name kind nets) h of free = let p = none_applies (checks_of_change s (asked.Inside block name kind nets)) free in inner_back s h (block_place s block) (inner_at name kind (pins_of (block_of s block) nets)) (found_within (λ b. bytes_eq b.name block) s.blocks p.0) p.1.1.1.1.1.0
-taken_back s (asked.UseBlock block name nets) h of free = let p = none_applies (checks_of_change s (asked.UseBlock block name nets)) free in part_back s h (block_component s (block_place s block) name (places_of s nets)) (nothing_there (named_in s name) p.1.0)
+taken_back s (asked.UseBlock block name nets) h of free = let p = none_applies (checks_of_change s (asked.UseBlock block name nets)) free in part_back s h (block_component s (block_place s block) name (net_places s nets)) (nothing_there (named_in s name) p.1.0)
 taken_back s (asked.Measure net cycle value) h of free = let p = none_applies (checks_of_change s (asked.Measure net cycle value)) free in
     measure_back s h (fact (cell_of s net cycle) value) (cell_in s net cycle) (cell_in-there s net cycle p.1.0) (nothing_there (reading_in s.readings (cell_of s net cycle)) p.1.1.1.1.0)
 taken_back s (asked.Retract net cycle) h of free = let p = none_applies (checks_of_change s (asked.Retract net cycle)) free in

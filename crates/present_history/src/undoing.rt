@@ -1,7 +1,7 @@
 // What takes a change of a present back.
 ghost use Rattle.std.specs.Prelude.{◌≡◌, ◌<◌, IfSome, length};
 ghost use Rattle.circuit_model.specs.Present.{IsLawful, part_named};
-ghost use Rattle.netlist_text.specs.Lookups.{place_of, part_of, block_place};
+ghost use Rattle.netlist_text.specs.Lookups.{net_place, part_of, block_place};
 ghost use Rattle.present_history.specs.Earlier.{retracted_by};
 ghost use Rattle.present_history.specs.Undoing.{undone, MayUndo, cost_of, cycle_in, cell_in, reading_there};
 ghost use Rattle.present_history.specs.Undoing as spec;
@@ -56,7 +56,7 @@ impl Undoing {
 
 // The place of the net with the name, 0 where there is none.
 fn net_place(present: &Present, name: &Name) -> u16
-    ensures { result ≡ place_of present.now name.now }
+    ensures { result ≡ net_place present.now name.now }
 {
     match present.find(name) {
         Some(Named::Net(place)) => place,

@@ -12,7 +12,7 @@ use Rattle.environment_sets.specs.Lists.{IsIn, IsRising, IsListing}
 use Rattle.environment_sets.specs.Members.{members, HasMember}
 use Rattle.environment_sets.specs.Sets.{Set, ◌⊆◌, ◌∖◌, is_within}
 use Rattle.environment_sets.proofs.Listings.{IsRising-push, IsIn-push, IsIn-front, IsIn-last}
-use Rattle.environment_sets.proofs.Membership.{IsIn-map, map-IsIn, list_any-IsIn, IsIn-list_any}
+use Rattle.environment_sets.proofs.Membership.{or-end, or-assoc, IsIn-map, map-IsIn, list_any-IsIn, IsIn-list_any}
 use Rattle.environment_sets.proofs.Slots.{slots_are_below}
 use Rattle.environment_sets.proofs.Within.{within_holds, holds_within}
 use Rattle.label_engine.specs.Engine.{Seen, label_of, label_at}
@@ -37,16 +37,8 @@ is_covered_by seen c v E = covers_by (label_of seen.kept (fact c v)) E
 -- ---- what stands outside a diagnosis, slot by slot
 
 is_among-push : (ys : List ℕ) (y k : ℕ) → is_among (ys ++ y ∷ []) k ≡ (is_among ys k || (k == y))
-is_among-push [] y k = or_false (k == y)
-  where
-    or_false : (b : Bool) → (b || false) ≡ b
-    or_false true = refl
-    or_false false = refl
-is_among-push (x ∷ ys) y k = ap (λ b. (k == x) || b) (is_among-push ys y k) ∙ or_assoc (k == x) (is_among ys k) (k == y)
-  where
-    or_assoc : (a b c : Bool) → (a || (b || c)) ≡ ((a || b) || c)
-    or_assoc true b c = refl
-    or_assoc false b c = refl
+is_among-push [] y k = or-end (k == y)
+is_among-push (x ∷ ys) y k = ap (λ b. (k == x) || b) (is_among-push ys y k) ∙ or-assoc (k == x) (is_among ys k) (k == y)
 
 pub outside_more :
     (xs : List ℕ) (i : ℕ) (D before now : Set ℕ) → i < length xs → ((k : ℕ) → before k ≡ (is_among (take i xs) k && not (D k))) → ((k : ℕ) → now k ≡ (before k || ((k == get_or xs i 0) && not (D k))))

@@ -8,6 +8,7 @@ use Rattle.circuit_model.specs.Diagnoses.{Circuit}
 use Rattle.circuit_model.specs.Present.{PresentView, circuit_of, is_cell_before, reading_in}
 use Rattle.circuit_model.specs.Probe.{weight_of, IsScore, IsTotal, IsUnmeasured, Splits, IsBestProbe, HasNoProbe}
 use Rattle.circuit_model.proofs.Splitting.{cells_have_one_score, diagnoses_have_one_listing}
+use Rattle.circuit_model.proofs.SameCells.{cell_by}
 use Rattle.probe_planner.specs.declared.planner.Probe.{Probe}
 use Rattle.probe_planner.specs.Planning.{IsBestBefore, IsBestSoFar, lesser_of, better_of, after_cell, first_cell}
 
@@ -26,9 +27,6 @@ is_before : (d c : Cell) → Precedes d c → IsTrue (is_cell_before d c)
 is_before d c (inl low) = or_left (nat_lt d.net c.net) ((d.net == c.net) && nat_lt d.cycle c.cycle) (lt-ltb d.net c.net low)
 is_before d c (inr (same, low)) = or_right (nat_lt d.net c.net) ((d.net == c.net) && nat_lt d.cycle c.cycle) (and_from (d.net == c.net) (nat_lt d.cycle c.cycle) (eq-eqb d.net c.net same) (lt-ltb d.cycle c.cycle low))
 
-same_cell_of : (d c : Cell) → d.net ≡ c.net → d.cycle ≡ c.cycle → d ≡ c
-same_cell_of d c net cycle = ap₂ (λ n k. record { net = n; cycle = k }) net cycle
-
 lower_or_same : (k n : ℕ) → k < n + 1 → (k < n) ⊎ (k ≡ n)
 lower_or_same k n h = grind arith
 
@@ -37,7 +35,7 @@ before_after d c h = elim (before_is d (after_cell c) h) [
   | inl low ↦ inl (is_before d c (inl low))
   | inr (same, low) ↦ elim (lower_or_same d.cycle c.cycle low) [
     | inl lower ↦ inl (is_before d c (inr (same, lower)))
-    | inr equal ↦ inr (same_cell_of d c same equal)
+    | inr equal ↦ inr (cell_by d c same equal)
   ]
 ]
 
@@ -68,10 +66,6 @@ total_unique P m n s t =
 pub some_not_none : (o : Option ℕ) → is_some o ≡ true → o ≡ None → ⊥
 some_not_none None e same = absurd (cc)
 some_not_none (Some v) e same = absurd (cc)
-
-pub none_of_not_some : (o : Option ℕ) → is_some o ≡ false → o ≡ None
-none_of_not_some None e = refl
-none_of_not_some (Some v) e = absurd (cc)
 
 module _ (s : PresentView) where
   -- ---- at the start, at the end, and from net to net

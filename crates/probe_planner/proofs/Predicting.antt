@@ -27,14 +27,14 @@ use Rattle.environment_sets.specs.declared.environment.TheConstants.{SLOTS}
 use Rattle.environment_sets.specs.Families.{IsCovered}
 use Rattle.environment_sets.specs.Members.{sets}
 use Rattle.environment_sets.specs.Sets.{Set, ◌⊆◌, others}
-use Rattle.environment_sets.proofs.Membership.{same_bool, IsIn-slice_get, IsIn-left, slice_get-IsIn}
+use Rattle.environment_sets.proofs.Membership.{same_bool, IsIn-slice_get, IsIn-left, slice_get-IsIn, at_place}
 use Rattle.label_engine.specs.Engine.{Seen, label_of, label_at}
 use Rattle.label_engine.specs.Questions.{HasLabel}
 use Rattle.label_engine.proofs.Masks.{label_within}
 use Rattle.standing_view.specs.Positions.{positions}
 use Rattle.standing_view.specs.Standing.{Stands, order_of, parts_of, mask_of}
 use Rattle.standing_view.specs.View.{StandsFor, slot_of, place_of, places}
-use Rattle.standing_view.proofs.Named.{as_many_parts, stands_remembered, names, the_mask_is_remembered}
+use Rattle.standing_view.proofs.Named.{as_many_parts, stands_remembered, names, the_mask_is_remembered, within_is, within_inside}
 use Rattle.standing_view.proofs.Places.{among_listed, listed_among}
 use Rattle.probe_planner.specs.Covering.{is_covered, rest}
 use Rattle.probe_planner.proofs.Covers.{is_covered_by}
@@ -46,11 +46,6 @@ not_true false h k = true≢false (sym k)
 true_not : (b : Bool) → (IsTrue b → ⊥) → IsTrue (not b)
 true_not true h = absurd (h refl)
 true_not false h = refl
-
-at_place : (xs : List ℕ) (i : ℕ) → i < length xs → (k : ℕ) × (slice_get xs i ≡ Some k)
-at_place [] i low = absurd (omega arith)
-at_place (x ∷ xs) zero low = (x, refl)
-at_place (x ∷ xs) (suc i) low = at_place xs i (omega arith)
 
 module _ (S : Stock ℕ) (st : Stands) (s : PresentView) (parked : List Fact) (r : StandsFor S st s parked) where
   M : Set ℕ
@@ -68,12 +63,6 @@ module _ (S : Stock ℕ) (st : Stands) (s : PresentView) (parked : List Fact) (r
     | inl h ↦ r.order.below k h
     | inr h ↦ let p = r.each_parked h.reading h.listed in let same : k ≡ p.slot = r.once k p.slot h.reading h.remembered p.remembered in omega (arith, p.below, same)
   ]
-
-  within_is : (k : ℕ) → IsTrue (mask_of st k) → within (mask_of st) S k ≡ S k
-  within_is k h = rw h refl
-
-  within_some : (k : ℕ) → IsSome (within (mask_of st) S k) → IsTrue (mask_of st k)
-  within_some k h = elim (mask_of st k) as (λ b. IsSome (cond b (S k) None) → IsTrue b) [ true ↦ λ _. refl | false ↦ λ none. none ] h
 
   module _ (D : Set ℕ) (inside : D ⊆ parts_of st) where
     -- a measurement's slot is no component's
@@ -114,7 +103,7 @@ module _ (S : Stock ℕ) (st : Stands) (s : PresentView) (parked : List Fact) (r
             let stands : IsTrue (mask_of st k.0) = (and_parts (mask_of st k.0) (not (D k.0)) k.2).0 in
             let same : within (mask_of st) S k.0 ≡ present.stock s (AtCell c) = renaming.same k.0 (AtCell c) (renaming.here k.0 (AtCell c) k.1) in
             let some : IsSome (S k.0) = stands_remembered S st s parked r k.0 (among_listed (order_of st) k.0 stands) in
-            measured (reading_in s.readings c) (subst (λ (o : Option Assumption). IsSome o) (sym (within_is k.0 stands) ∙ same) some)
+            measured (reading_in s.readings c) (subst (λ (o : Option Assumption). IsSome o) (sym (within_is S st s parked r k.0 stands) ∙ same) some)
           where
             measured : (o : Option ℕ) → IsSome (option_map (λ v. Reading (fact c v)) o) → IsTrue (is_some o)
             measured None h = h
@@ -124,7 +113,7 @@ module _ (S : Stock ℕ) (st : Stands) (s : PresentView) (parked : List Fact) (r
         from h =
             let k : (k : ℕ) × (slot_of st (AtCell c) ≡ Some k) = some_of (slot_of st (AtCell c)) (renaming.each_back (AtCell c) (named (reading_in s.readings c) h)) in
             let same : within (mask_of st) S k.0 ≡ present.stock s (AtCell c) = renaming.same k.0 (AtCell c) (renaming.here k.0 (AtCell c) k.1) in
-            let stands : IsTrue (mask_of st k.0) = within_some k.0 (subst (λ (o : Option Assumption). IsSome o) (sym same) (named (reading_in s.readings c) h)) in
+            let stands : IsTrue (mask_of st k.0) = within_inside S st s parked r k.0 (subst (λ (o : Option Assumption). IsSome o) (sym same) (named (reading_in s.readings c) h)) in
             passes-intro (rest st D) (slot_of st (AtCell c)) k.0 k.1 (and_from (mask_of st k.0) (not (D k.0)) stands (true_not (D k.0) (not_measured c k.0 k.1)))
           where
             named : (o : Option ℕ) → IsTrue (is_some o) → IsSome (option_map (λ v. Reading (fact c v)) o)
@@ -139,10 +128,10 @@ module _ (S : Stock ℕ) (st : Stands) (s : PresentView) (parked : List Fact) (r
 
     -- what is chosen by slots that stand is chosen of what stands alone, and the other way round
     chosen_to : (a : Assumption) → IsChosen S (rest st D) a → IsChosen (within (mask_of st) S) (rest st D) a
-    chosen_to a h = record { name = h.name; chosen = h.chosen; named = within_is h.name (outside_stands h.name h.chosen) ∙ h.named }
+    chosen_to a h = record { name = h.name; chosen = h.chosen; named = within_is S st s parked r h.name (outside_stands h.name h.chosen) ∙ h.named }
 
     chosen_from : (a : Assumption) → IsChosen (within (mask_of st) S) (rest st D) a → IsChosen S (rest st D) a
-    chosen_from a h = record { name = h.name; chosen = h.chosen; named = sym (within_is h.name (outside_stands h.name h.chosen)) ∙ h.named }
+    chosen_from a h = record { name = h.name; chosen = h.chosen; named = sym (within_is S st s parked r h.name (outside_stands h.name h.chosen)) ∙ h.named }
 
     has_by_places : (c : Cell) (v : ℕ) → Has S (fact c v) (rest st D) ↔ Predicts (circuit_of s) c (positions st D) v
     has_by_places c v =

@@ -1,7 +1,7 @@
 -- The score, word by word.
 use Rattle.std.proofs.Common.{◌≡◌, ℕ, ◌+◌, ◌-◌, ◌*◌, ◌≤◌, ◌<◌, inl, inr, Bool, true, false, cond, ◌==◌, IsTrue, List, [], ◌∷◌, map, Option, Some, None, sum, refl, sym, ap, ap₂, subst, ◌∙◌, arith, zero-add}
 use Rattle.std.specs.List.{sum_by}
-use Rattle.std.proofs.lemmas.Bool.{false_from_ne_true}
+use Rattle.std.proofs.lemmas.Bool.{false_from_ne_true, eqb-true, eq-eqb}
 use Rattle.std.proofs.lemmas.Bool.Decides.{nat_tests}
 use Rattle.std.proofs.lemmas.List.Sums.{sum_by-cons, sum-map}
 use Rattle.environment_sets.specs.Costs.{cost_in}
@@ -214,14 +214,8 @@ pub first_is_word : (test : ℕ → Bool) (vs : List ℕ) → ((u v : ℕ) → I
 first_is_word test vs one v h =
     elim (first_word test vs) as (λ o. first_word test vs ≡ o → test v ≡ is_word v o) [
       | None ↦ λ none. same_bool (test v) false (λ is. absurd (first_word-none test vs none v h is)) (λ is. absurd (cc))
-      | Some w ↦ λ some. same_bool (test v) (v == w) (λ is. equal v w (one v w is (first_word-sound test vs w some).1)) (λ is. subst (λ (k : ℕ). IsTrue (test k)) (sym (same v w is)) (first_word-sound test vs w some).1)
+      | Some w ↦ λ some. same_bool (test v) (v == w) (λ is. eq-eqb v w (one v w is (first_word-sound test vs w some).1)) (λ is. subst (λ (k : ℕ). IsTrue (test k)) (sym (eqb-true v w is)) (first_word-sound test vs w some).1)
     ] refl
-  where
-    equal : (a b : ℕ) → a ≡ b → IsTrue (a == b)
-    equal a b e = grind (arith, nat_tests)
-
-    same : (a b : ℕ) → IsTrue (a == b) → a ≡ b
-    same a b e = grind (arith, nat_tests)
 
 -- ---- the weight of a word, by the diagnoses
 

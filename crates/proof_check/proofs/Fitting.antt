@@ -15,7 +15,7 @@ use Rattle.circuit_model.specs.Diagnoses.{Place}
 use Rattle.circuit_model.specs.Derivation.{Step, Holds, Value, IsAssumed, AreValidAfter, fact_of}
 use Rattle.circuit_model.specs.Present.{PresentView, IsLawful, width_of, circuit_of}
 use Rattle.circuit_model.specs.Whole.{stock}
-use Rattle.circuit_model.proofs.Inferences.{FitEach-at}
+use Rattle.circuit_model.proofs.Inferences.{word_fits}
 use Rattle.circuit_model.proofs.Readings.{Measured, measured_at, IsFactOf-at}
 use Rattle.circuit_model.proofs.Rounds.{Follows-within}
 use Rattle.circuit_model.proofs.Derivations.{valid_derivations_are_true}
@@ -52,7 +52,7 @@ module _ (s : PresentView) (E : Set Place) (lawful : IsLawful s) where
       let width : slice_get instance.widths port ≡ Some w = slice_get-get_or instance.widths port 0 (omega (arith, at.three, at.widths_three)) in
       let t : List ℕ = forces.some_tuple.0 in
       let there : slice_get t port ≡ Some v = forces.every_tuple t forces.some_tuple.1 forces.some_tuple.2 in
-      let below : v < 2 ^ w = FitEach-at instance.widths t port w v forces.some_tuple.1.fits width there in
+      let below : v < 2 ^ w = word_fits instance.prim instance.widths t port w v forces.some_tuple.1 width there in
       rw (← at.of_width port w c e width) below
 
   -- the cells of an instance of a component that is assumed

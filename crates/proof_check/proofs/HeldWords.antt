@@ -7,9 +7,8 @@ use Rattle.circuit_model.specs.declared.model.Cell.{Cell}
 use Rattle.circuit_model.specs.declared.model.Fact.{Fact}
 use Rattle.circuit_model.specs.declared.model.Instance.{Instance}
 use Rattle.circuit_model.specs.Closure.{fact, AreHeld}
-use Rattle.circuit_model.specs.Inference.{Forces, Refutes, IsInference}
+use Rattle.circuit_model.specs.Inference.{Forces, Refutes, IsInference, WordsFit}
 use Rattle.circuit_model.specs.Derivation.{number_of, facts_at}
-use Rattle.component_models.specs.Asking.{WordsFit}
 use Rattle.proof_check.specs.declared.written.TheConstants.{CHOICES}
 use Rattle.proof_check.specs.Written.{given, at_two_places}
 use Rattle.proof_check.specs.Checking.{AreAlike}

@@ -8,11 +8,11 @@ use Rattle.circuit_model.specs.declared.model.Cell.{Cell}
 use Rattle.circuit_model.specs.declared.model.Fact.{Fact}
 use Rattle.circuit_model.specs.declared.model.Instance.{Instance}
 use Rattle.circuit_model.specs.Closure.{fact, AreHeld}
-use Rattle.circuit_model.specs.Inference.{Forces, Refutes, IsInference}
+use Rattle.circuit_model.specs.Inference.{Forces, Refutes, IsInference, WordsFit}
 use Rattle.circuit_model.specs.Diagnoses.{Place}
 use Rattle.circuit_model.specs.Derivation.{Justification, number_of, facts_at, Justifies, JustifiesClash}
 use Rattle.circuit_model.specs.Present.{PresentView, width_of, circuit_of}
-use Rattle.component_models.specs.Asking.{WordsFit}
+use Rattle.circuit_model.proofs.Derivations.{IsIn-facts_at}
 use Rattle.proof_check.specs.declared.written.TheConstants.{CHOICES}
 use Rattle.proof_check.specs.Written.{given, at_two_places}
 use Rattle.proof_check.specs.Checking.{words_at_choice, AreWords, AreAlike, IsInstanceOf, IsPlaced, IsPremise}
@@ -140,15 +140,6 @@ facts_at-there (c ∷ cells) [] f h = absurd h
 facts_at-there (c ∷ cells) (None ∷ known) f h = let r = facts_at-there cells known f h in (suc r.0, r.1, r.2)
 facts_at-there (c ∷ cells) (Some v ∷ known) f (inl e) = (0, ap (λ (f : Fact). Some (Some f.value)) e, ap (λ (f : Fact). Some f.cell) e)
 facts_at-there (c ∷ cells) (Some v ∷ known) f (inr h) = let r = facts_at-there cells known f h in (suc r.0, r.1, r.2)
-
--- each known word with its cell is one of the facts
-pub IsIn-facts_at : (cells : List Cell) (known : List (Option ℕ)) (p v : ℕ) (c : Cell) → slice_get known p ≡ Some (Some v) → slice_get cells p ≡ Some c → IsIn (facts_at cells known) (fact c v)
-IsIn-facts_at cells [] p v c k e = absurd (cc)
-IsIn-facts_at [] (o ∷ known) p v c k e = absurd (cc)
-IsIn-facts_at (d ∷ cells) (None ∷ known) zero v c k e = absurd (cc)
-IsIn-facts_at (d ∷ cells) (None ∷ known) (suc p) v c k e = IsIn-facts_at cells known p v c k e
-IsIn-facts_at (d ∷ cells) (Some w ∷ known) zero v c k e = let word : w ≡ v = cc in let cell : d ≡ c = cc in inl (ap₂ fact cell word)
-IsIn-facts_at (d ∷ cells) (Some w ∷ known) (suc p) v c k e = inr (IsIn-facts_at cells known p v c k e)
 
 module _ (H : Fact → Type 0) (cells : List Cell) (known : List (Option ℕ)) where
   pub held_alike : AreHeld H cells known → AreAlike (facts_at cells known)

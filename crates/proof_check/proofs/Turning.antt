@@ -23,6 +23,7 @@ use Rattle.circuit_model.proofs.Decided.{last_rounds_decide_clashes}
 use Rattle.circuit_model.proofs.Monotony.{AreHeld-map, AreTwoWords-map}
 use Rattle.circuit_model.proofs.Readings.{Measured, measured_at, IsFactOf-at}
 use Rattle.circuit_model.proofs.Rounds.{Holds-later, Follows-within}
+use Rattle.circuit_model.proofs.Derivations.{IsIn-facts_at}
 use Rattle.proof_check.specs.declared.derivation.Ending.{Ending}
 use Rattle.proof_check.specs.Written.{ending_of}
 use Rattle.proof_check.specs.Checking.{AreAlike, AllFit}
@@ -33,7 +34,6 @@ use Rattle.proof_check.specs.Turns.{at_round, HasAll, AreSeparate, IsClashOfFact
 use Rattle.proof_check.proofs.Assumed.{HasPart, part_assumed, HasReading, reading_assumed}
 use Rattle.proof_check.proofs.Fitting.{follows_fits, cells_assumed}
 use Rattle.proof_check.proofs.Instances.{AreCells}
-use Rattle.proof_check.proofs.Told.{IsIn-facts_at}
 use Rattle.proof_check.proofs.Ordered.{IsBehind, behind}
 
 -- an order that follows from another one, for the elements of the list

@@ -12,7 +12,7 @@ ghost use Rattle.proof_check.specs.Checking.{AllFit, justification_of};
 
 use crate::conclusions::{are_giving, conclusions};
 use crate::derivation::{Derivation, Ending, Goal, Step};
-use crate::premises::{Claim, is_same_cell, is_shown, premises_of};
+use crate::premises::{Claim, is_shown, premises_of};
 use circuit_model::{Cell, Cells, Chosen, Fact, Present};
 
 /// Whether the derivation is valid: each step is a measurement of the environment or is forced by facts of earlier
@@ -85,7 +85,7 @@ pub fn has_cell(cells: &Cells, cell: Cell) -> bool
     ensures { IsTrue result ↔ IsIn cells.now cell }
 {
     for i in 0..cells.len() {
-        if is_same_cell(cells.at(i), cell) {
+        if cells.at(i) == cell {
             return true;
         }
     }

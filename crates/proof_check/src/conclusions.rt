@@ -1,9 +1,8 @@
 // What known words at an instance's ports say.
 
 ghost use Rattle.std.specs.Prelude.{◌≡◌, ℕ, ◌<◌, ◌≤◌, ◌↔◌, ◌∷◌, [], IsTrue, false, Some, None, slice_get};
-ghost use Rattle.circuit_model.specs.Inference.{IsInference};
+ghost use Rattle.circuit_model.specs.Inference.{IsInference, WordsFit};
 ghost use Rattle.circuit_model.specs.Lawful.{IsLawfulInstance};
-ghost use Rattle.component_models.specs.Asking.{WordsFit};
 
 use circuit_model::{Cell, Fact, Instance};
 use component_models::{Inference, has_open_port, infer};

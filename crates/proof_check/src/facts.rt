@@ -3,12 +3,9 @@
 ghost use Rattle.std.specs.Prelude.{◌≡◌, ◌↔◌, ℕ, IsTrue, Some, slice_get, MatchOption};
 ghost use Rattle.environment_sets.specs.Lists.{IsIn};
 ghost use Rattle.circuit_model.specs.Closure.{fact, AreTwoWords};
-ghost use Rattle.circuit_model.specs.Derivation.{is_fact_before};
-ghost use Rattle.circuit_model.specs.Present.{is_cell};
 ghost use Rattle.proof_check.specs.Ordered.{AreInOrder, IsPlaceOf, IsFirstPair};
 
 use crate::derivation::Ending;
-use crate::premises::{is_same_cell, is_same_fact};
 use circuit_model::{Cell, Fact};
 use std::alloc::{AllocError, Global};
 use std::marker::Model;
@@ -81,7 +78,7 @@ impl Facts {
         ensures order { OnOk result (AreInOrder self.new) }
         ensures err { OnErr result (self.new ≡ self.old) }
     {
-        let place = place_of(&self.list, fact);
+        let place = place_for(&self.list, fact);
         if stands_at(&self.list, place, fact) {
             return Ok(());
         }
@@ -97,21 +94,8 @@ impl Facts {
     }
 }
 
-/// Whether it comes before the other one: by cell, then by word.
-fn comes_before(one: Fact, other: Fact) -> bool
-    ensures { result ≡ is_fact_before one other }
-{
-    one.cell.comes_before(other.cell) || (is_at(one, other.cell) && one.value < other.value)
-}
-
-fn is_at(fact: Fact, cell: Cell) -> bool
-    ensures { result ≡ is_cell fact.cell cell }
-{
-    fact.cell.net == cell.net && fact.cell.cycle == cell.cycle
-}
-
 /// The place where the fact stands, or would stand.
-fn place_of(facts: &[Fact], fact: Fact) -> usize
+fn place_for(facts: &[Fact], fact: Fact) -> usize
     requires { AreInOrder facts.now }
     ensures { IsPlaceOf facts.now fact result }
 {
@@ -119,7 +103,7 @@ fn place_of(facts: &[Fact], fact: Fact) -> usize
     let mut high = facts.len();
     while low < high {
         let middle = low + (high - low) / 2;
-        if comes_before(facts[middle], fact) {
+        if facts[middle].comes_before(fact) {
             low = middle + 1;
         } else {
             high = middle;
@@ -133,7 +117,7 @@ fn stands_at(facts: &[Fact], place: usize, fact: Fact) -> bool
 {
     match facts.get(place) {
         None => false,
-        Some(there) => is_same_fact(*there, fact),
+        Some(there) => *there == fact,
     }
 }
 
@@ -141,7 +125,7 @@ fn has(facts: &[Fact], fact: Fact) -> bool
     requires { AreInOrder facts.now }
     ensures { IsTrue result ↔ IsIn facts.now fact }
 {
-    stands_at(facts, place_of(facts, fact), fact)
+    stands_at(facts, place_for(facts, fact), fact)
 }
 
 /// The word at the place, if it is of the cell.
@@ -149,7 +133,7 @@ fn word_from(facts: &[Fact], place: usize, cell: Cell) -> Option<u64>
     ensures { MatchOption result ((v : ℕ) → slice_get facts.now place ≡ Some (fact cell v) → ⊥) (λ v. slice_get facts.now place ≡ Some (fact cell v)) }
 {
     let there = facts.get(place)?;
-    if !is_same_cell(there.cell, cell) {
+    if there.cell != cell {
         return None;
     }
     Some(there.value)
@@ -160,7 +144,7 @@ fn word_at(facts: &[Fact], cell: Cell) -> Option<u64>
     requires { AreInOrder facts.now }
     ensures { MatchOption result ((v : ℕ) → IsIn facts.now (fact cell v) → ⊥) (λ v. IsIn facts.now (fact cell v)) }
 {
-    word_from(facts, place_of(facts, Fact { cell, value: 0 }), cell)
+    word_from(facts, place_for(facts, Fact { cell, value: 0 }), cell)
 }
 
 /// The first cell with two words, and its two least words.
@@ -171,7 +155,7 @@ fn first_pair(facts: &[Fact]) -> Option<Ending>
     for i in 1..facts.len() {
         let low = facts[i - 1];
         let high = facts[i];
-        if is_same_cell(low.cell, high.cell) {
+        if low.cell == high.cell {
             return Some(Ending::TwoValues {
                 cell: low.cell,
                 low: low.value,

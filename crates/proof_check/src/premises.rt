@@ -109,23 +109,9 @@ fn are_alike(from: &[Option<Fact>; 2]) -> bool
 {
     let [first, second] = *from;
     match (first, second) {
-        (Some(f), Some(g)) => agree(f, g),
+        (Some(f), Some(g)) => f.agrees_with(g),
         _ => true,
     }
-}
-
-/// Whether these are not two words at one cell.
-fn agree(f: Fact, g: Fact) -> bool
-    ensures { IsTrue result ↔ (f.cell ≡ g.cell → f ≡ g) }
-{
-    !is_same_cell(f.cell, g.cell) || f == g
-}
-
-/// Whether it is the same cell.
-pub fn is_same_cell(c: Cell, d: Cell) -> bool
-    ensures { IsTrue result ↔ (c ≡ d) }
-{
-    c == d
 }
 
 /// Whether each of the facts is one that the steps show.
@@ -150,16 +136,9 @@ pub fn is_shown(fact: Fact, shown: &[Step]) -> bool
     ensures { IsTrue result ↔ IsIn (facts_of shown.now) fact }
 {
     for step in shown {
-        if is_same_fact(step.fact(), fact) {
+        if step.fact() == fact {
             return true;
         }
     }
     false
-}
-
-/// Whether it is the same fact.
-pub fn is_same_fact(one: Fact, other: Fact) -> bool
-    ensures { IsTrue result ↔ (one ≡ other) }
-{
-    one == other
 }

@@ -11,7 +11,7 @@ use Rattle.environment_sets.specs.Sets.{Set}
 use Rattle.circuit_model.specs.Probe.{HasMoreDiagnosesThan}
 use Rattle.circuit_model.specs.declared.limits.TheConstants.{MOST_ASKED, MOST_DIAGNOSES}
 use Rattle.netlist_text.specs.Checks as placing
-use Rattle.netlist_text.specs.Lookups.{cell_of, place_of}
+use Rattle.netlist_text.specs.Lookups.{cell_of, net_place}
 use Rattle.netlist_text.specs.Placing.{changed}
 use Rattle.netlist_text.specs.declared.misfits.Misfit.TheVariants as misfit
 use Rattle.netlist_text.specs.declared.requests.Query.{Query}
@@ -55,7 +55,7 @@ checks_of_count number = check BadCount (not (nat_lt 0 number && nat_le number M
 abbrev pub checks_of_value : State → List ℕ → ℕ → ℕ → List Check
 checks_of_value s net cycle value =
     of_each (placing.checks_of_cell s.present net cycle)
-    ++ check (Misfit misfit.ValueDoesNotFit) (not (nat_lt value (2 ^ width_of s.present (place_of s.present net)))) ∷ []
+    ++ check (Misfit misfit.ValueDoesNotFit) (not (nat_lt value (2 ^ width_of s.present (net_place s.present net)))) ∷ []
 
 -- what is not answered yet
 abbrev pub not_built : List Check

@@ -1,5 +1,8 @@
 // The questions of a session.
 ghost use Rattle.std.specs.Prelude.{◌≡◌, IfOk};
+ghost use Rattle.environment_sets.specs.Members.{sets};
+ghost use Rattle.circuit_model.specs.Present.{circuit_of};
+ghost use Rattle.circuit_model.specs.Probe.{AreConflicts};
 ghost use Rattle.netlist_text.specs.declared.requests.Query.TheVariants as query;
 ghost use Rattle.session_undo.specs.Answers.{IsWritable};
 ghost use Rattle.session_undo.specs.Serving.{Asked};
@@ -10,10 +13,11 @@ use crate::session::Session;
 use circuit_model::Name;
 use circuit_model::limits::MOST_ASKED;
 use diagnosis_order::DiagnosisStop;
-use environment_sets::EnvList;
+use environment_sets::{Env, EnvList};
 use netlist_text::{Query, check_cell};
 use standing_diagnoses::{conflicts_of, diagnoses_of, first_of};
 use standing_probe::probe_of;
+use std::alloc::AllocError;
 
 impl Session {
     /// Answers a question. Nothing that contracts see changes, and nothing is remembered or forgotten.
@@ -47,15 +51,22 @@ impl Session {
         }
     }
 
+    // The conflicts of the present, each as a set of positions.
+    fn conflicts_found(&self) -> Result<Vec<Env>, AllocError>
+        ensures { IfOk result (λ found. AreConflicts (circuit_of self.now.present) (sets found.items)) }
+    {
+        conflicts_of(
+            self.alloc,
+            &self.remembered.engine,
+            &self.remembered.standing,
+        )
+    }
+
     fn conflicts(&self) -> Result<Answer, Stop>
         ensures answers { Asked self.now query.Conflicts result }
         ensures writable { IfOk result (IsWritable self.now) }
     {
-        match conflicts_of(
-            self.alloc,
-            &self.remembered.engine,
-            &self.remembered.standing,
-        ) {
+        match self.conflicts_found() {
             Ok(found) => Ok(Answer::Conflicts(EnvList::of(found))),
             Err(_) => Err(Stop::OutOfMemory),
         }
@@ -66,11 +77,7 @@ impl Session {
         ensures same { self.new ≡ self.old }
         ensures writable { IfOk result (IsWritable self.new) }
     {
-        let Ok(conflicts) = conflicts_of(
-            self.alloc,
-            &self.remembered.engine,
-            &self.remembered.standing,
-        ) else {
+        let Ok(conflicts) = self.conflicts_found() else {
             return Err(Stop::OutOfMemory);
         };
         match diagnoses_of(self.alloc, &mut self.hitter, &self.present, &conflicts) {
@@ -88,11 +95,7 @@ impl Session {
         if number == 0 || number > MOST_ASKED {
             return Err(Stop::Refused(Refusal::BadCount));
         }
-        let Ok(conflicts) = conflicts_of(
-            self.alloc,
-            &self.remembered.engine,
-            &self.remembered.standing,
-        ) else {
+        let Ok(conflicts) = self.conflicts_found() else {
             return Err(Stop::OutOfMemory);
         };
         match first_of(self.alloc, &self.present, &conflicts, number as usize) {
@@ -107,11 +110,7 @@ impl Session {
         ensures same { self.new ≡ self.old }
         ensures writable { IfOk result (IsWritable self.new) }
     {
-        let Ok(conflicts) = conflicts_of(
-            self.alloc,
-            &self.remembered.engine,
-            &self.remembered.standing,
-        ) else {
+        let Ok(conflicts) = self.conflicts_found() else {
             return Err(Stop::OutOfMemory);
         };
         let diagnoses = match diagnoses_of(

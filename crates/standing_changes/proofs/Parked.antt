@@ -14,16 +14,13 @@ use Rattle.environment_sets.proofs.Membership.{IsIn-append}
 use Rattle.assumption_slots.specs.Slots.{stock}
 use Rattle.standing_view.specs.Standing.{Stands, order_of, AreInOrder, without_reading_at}
 use Rattle.standing_view.specs.View.{StandsFor, IsParked, IsReadingOf}
-use Rattle.standing_view.proofs.Growing.{is_some, no_other}
+use Rattle.standing_view.proofs.Growing.{is_some, no_other, same_reading}
 use Rattle.standing_view.proofs.Inserted.{not_measured}
 use Rattle.standing_view.proofs.Parked.{a_reading_is_parked}
 use Rattle.standing_changes.specs.declared.remembered.Remembered.{Remembered}
 use Rattle.standing_changes.specs.Remembered.{StandsWith, IsRemembered}
 use Rattle.standing_changes.proofs.Alike.{AreAlike}
 use Rattle.standing_changes.proofs.Readings.{IsReadingAt, cells_of, reading_place, cell_listed, not_listed}
-
-same_reading : (f g : Fact) → Some (Reading f) ≡ Some (Reading g) → f ≡ g
-same_reading f g e = cc
 
 no_part : (f : Fact) (c : Component) → Some (Reading f) ≡ Some (Part c.part) → ⊥
 no_part f c e = cc

@@ -40,18 +40,12 @@ pub struct Remembered {
     pub standing: Standing,
 }
 
-fn is_same_cell(c: Cell, d: Cell) -> bool
-    ensures { IsTrue result ↔ (c ≡ d) }
-{
-    c == d
-}
-
 // Whether the measurement at the place is of the cell.
 fn is_cell_at(standing: &Standing, place: u16, cell: Cell) -> bool
     requires { place < length standing.now.cells }
     ensures { IsTrue result ↔ (slice_get standing.now.cells place ≡ Some cell) }
 {
-    is_same_cell(standing.cell_at(place), cell)
+    standing.cell_at(place) == cell
 }
 
 // The slot of the measurement of a cell.

@@ -1,5 +1,6 @@
 -- Minimal hitting sets of the conflicts of a circuit are its diagnoses.
 use Rattle.std.proofs.Common.{◌≡◌, ℕ, zero, suc, ◌+◌, ◌<◌, ◌≤◌, nat_lt, ◌⊎◌, inl, inr, ◌↔◌, IsTrue, List, [], ◌∷◌, length, map, Result, Ok, Err, IfOk, IfErr, refl, sym, ap, subst, ◌∙◌, arith, zero-add}
+use Rattle.std.proofs.lemmas.Bool.{ltb-true, lt-ltb}
 use Rattle.std.specs.List.{range_with_len}
 use Rattle.std.proofs.lemmas.Bool.Decides.{nat_tests}
 use Rattle.std.proofs.lemmas.List.{length-map}
@@ -19,6 +20,8 @@ use Rattle.environment_sets.specs.Lists.{IsIn, AreDistinct, IsListing, IsRoster}
 use Rattle.environment_sets.specs.Members.{members, sets}
 use Rattle.environment_sets.specs.Orders.{IsOrder}
 use Rattle.environment_sets.specs.Sets.{Set, ◌⊆◌, IsBelow, Hits, IsMinimalHittingSet}
+use Rattle.environment_sets.proofs.Ranges.{in_range, to_range, range_distinct}
+use Rattle.environment_sets.proofs.Hitting.{hitting_alike}
 use Rattle.hitting_sets.specs.Hitting.{IsMinimalFor}
 use Rattle.first_diagnoses.specs.First.{AreFirst}
 use Rattle.diagnosis_order.specs.Stops.{IsStopFor}
@@ -27,46 +30,23 @@ use Rattle.diagnosis_order.specs.declared.listing.DiagnosisStop.TheVariants.{Too
 use Rattle.standing_diagnoses.specs.Listing.{IsBeforeByCost, HasFewDiagnoses, IsStopAt}
 use Rattle.standing_view.proofs.PartSets.{hitting_inside}
 
-in_range : (a n i : ℕ) → IsIn (range_with_len a n) i → (a ≤ i) × (i < a + n)
-in_range a zero i h = absurd h
-in_range a (suc n) i (inl e) = (omega arith, omega arith)
-in_range a (suc n) i (inr h) = let r : (a + 1 ≤ i) × (i < (a + 1) + n) = in_range (a + 1) n i h in (omega (arith, r.0), omega (arith, r.1))
-
-to_range : (a n i : ℕ) → i < n → IsIn (range_with_len a n) (a + i)
-to_range a zero i low = absurd (omega arith)
-to_range a (suc n) zero low = inl (omega arith)
-to_range a (suc n) (suc i) low = let m : (a + 1) + i ≡ a + suc i = omega arith in inr (subst (IsIn (range_with_len (a + 1) n)) m (to_range (a + 1) n i (omega arith)))
-
-range_distinct : (a n : ℕ) → AreDistinct (range_with_len a n)
-range_distinct a zero = tt
-range_distinct a (suc n) = (λ y h e. let r : (a + 1 ≤ y) × (y < (a + 1) + n) = in_range (a + 1) n y h in absurd (omega (arith, r.0, e)), range_distinct (a + 1) n)
-
 pub range_order : (n : ℕ) → n ≤ MOST_PARTS → IsOrder SLOTS (range_with_len 0 n)
 range_order n few = record { below = λ k h. let r : (0 ≤ k) × (k < 0 + n) = in_range 0 n k h in omega (arith, r.1); distinct = range_distinct 0 n }
-
-nat_lt_is : (k n : ℕ) → IsTrue (nat_lt k n) → k < n
-nat_lt_is k n h = grind (arith, nat_tests)
-
-is_nat_lt : (k n : ℕ) → k < n → IsTrue (nat_lt k n)
-is_nat_lt k n h = grind (arith, nat_tests)
 
 module _ (P : Circuit) (Cs : List (Set ℕ)) (are : AreConflicts P Cs) where
   pub listed : (E : Set ℕ) → IsIn Cs E → (k : ℕ) → IsTrue (E k) → IsIn (positions_in P) k
   listed E h k is = subst (IsIn (positions_in P)) (zero-add k) (to_range 0 (length P.parts) k (((are.exact E).0 h).positions k is))
 
-  moved : (F G : Set ℕ → Type 0) → ((C : Set ℕ) → F C → G C) → ((C : Set ℕ) → G C → F C) → (D : Set ℕ) → IsMinimalHittingSet F D → IsMinimalHittingSet G D
-  moved F G to from D m = record { holds = λ C h. m.holds C (from C h); least = λ E within hits. m.least E within (λ C h. hits C (to C h)) }
-
   pub diagnosis : (D : Set ℕ) → IsMinimalHittingSet (IsIn Cs) D → IsDiagnosis P D
   diagnosis D h =
       (diagnoses_are_hitting_sets P D).1
-      (hitting_inside_below D h, moved (IsIn Cs) (IsConflict P) (λ C at. (are.exact C).0 at) (λ C is. (are.exact C).1 is) D h)
+      (hitting_inside_below D h, hitting_alike (IsIn Cs) (IsConflict P) (λ C at. (are.exact C).0 at) (λ C is. (are.exact C).1 is) D h)
     where
       hitting_inside_below : (D : Set ℕ) → IsMinimalHittingSet (IsIn Cs) D → IsBelow (length P.parts) D
-      hitting_inside_below D h k is = nat_lt_is k (length P.parts) (hitting_inside (λ j. nat_lt j (length P.parts)) Cs (λ C at j in_C. is_nat_lt j (length P.parts) (((are.exact C).0 at).positions j in_C)) D h k is)
+      hitting_inside_below D h k is = ltb-true k (length P.parts) (hitting_inside (λ j. nat_lt j (length P.parts)) Cs (λ C at j in_C. lt-ltb j (length P.parts) (((are.exact C).0 at).positions j in_C)) D h k is)
 
   pub hitting : (D : Set ℕ) → IsDiagnosis P D → IsMinimalHittingSet (IsIn Cs) D
-  hitting D h = moved (IsConflict P) (IsIn Cs) (λ C is. (are.exact C).1 is) (λ C at. (are.exact C).0 at) D ((diagnoses_are_hitting_sets P D).0 h).1
+  hitting D h = hitting_alike (IsConflict P) (IsIn Cs) (λ C is. (are.exact C).1 is) (λ C at. (are.exact C).0 at) D ((diagnoses_are_hitting_sets P D).0 h).1
 
   pub all_diagnoses : (Ds : List (Set ℕ)) → IsListing (IsBeforeByCost P) (IsMinimalHittingSet (IsIn Cs)) Ds → AreDiagnoses P Ds
   all_diagnoses Ds listing = record { rising = listing.rising; exact = λ D. (λ h. diagnosis D ((listing.exact D).0 h), λ h. (listing.exact D).1 (hitting D h)) }

@@ -5,6 +5,7 @@ use Rattle.std.proofs.lemmas.Bool.{or_cases, or_left, or_right, false≢true}
 use Rattle.std.proofs.lemmas.Bool.Decides.{nat_tests}
 use Rattle.std.proofs.lemmas.List.{map-append}
 use Rattle.environment_sets.specs.Sets.{Set, no_elements, only, ◌∪◌}
+use Rattle.environment_sets.proofs.Ranges.{last_or_before, is_only, only_is}
 use Rattle.circuit_model.proofs.Settled.{same_set}
 use Rattle.standing_view.specs.Standing.{Stands}
 use Rattle.standing_view.specs.Positions.{positions}
@@ -17,15 +18,6 @@ pub record AreBelow (p : Set ℕ) (n : ℕ) (E : Set ℕ) : Type 0 where
 
 pub none_below : (p : Set ℕ) (E : Set ℕ) → E ≡ no_elements → AreBelow p 0 E
 none_below p E is = record { sound = λ i h. absurd (false≢true (subst (λ (F : Set ℕ). IsTrue (F i)) is h)); all = λ i low h. absurd (omega arith) }
-
-last_or_before : (i n : ℕ) → i < n + 1 → (i ≡ n) ⊎ (i < n)
-last_or_before i n low = grind arith
-
-is_only : (i n : ℕ) → i ≡ n → IsTrue (only n i)
-is_only i n e = grind (arith, nat_tests)
-
-only_is : (i n : ℕ) → IsTrue (only n i) → i ≡ n
-only_is i n h = grind (arith, nat_tests)
 
 module _ (p : Set ℕ) (n : ℕ) (E F : Set ℕ) (was : AreBelow p n E) where
   pub more_below : (chosen : Bool) → F ≡ cond chosen (E ∪ only n) E → chosen ≡ p n → AreBelow p (n + 1) F
@@ -49,14 +41,6 @@ module _ (p : Set ℕ) (n : ℕ) (E F : Set ℕ) (was : AreBelow p n E) where
 
 pub all_below : (st : Stands) (E F : Set ℕ) (n : ℕ) → length st.parts ≤ n → AreBelow (positions st E) n F → F ≡ positions st E
 all_below st E F n high are = same_set F (positions st E) are.sound (λ i h. are.all i (let low : i < length st.parts = positions_are_in_range st E i h in omega arith) h)
-
--- one number more
-range_push : (a n : ℕ) → range_with_len a (suc n) ≡ range_with_len a n ++ (a + n) ∷ []
-range_push a zero = let n : a ≡ a + 0 = omega arith in ap (λ (m : ℕ). m ∷ []) n
-range_push a (suc n) = let m : (a + 1) + n ≡ a + suc n = omega arith in ap (λ (xs : List ℕ). a ∷ xs) (range_push (a + 1) n ∙ ap (λ (k : ℕ). range_with_len (a + 1) n ++ k ∷ []) m)
-
-pub range_more : (n : ℕ) → range_with_len 0 (n + 1) ≡ range_with_len 0 n ++ n ∷ []
-range_more n = let one : n + 1 ≡ suc n = omega arith in ap (λ (m : ℕ). range_with_len 0 m) one ∙ (range_push 0 n ∙ ap (λ (k : ℕ). range_with_len 0 n ++ k ∷ []) (zero-add n))
 
 take_push : {X : Type 0} (xs : List X) (i : ℕ) (x : X) → slice_get xs i ≡ Some x → take (suc i) xs ≡ take i xs ++ x ∷ []
 take_push [] i x e = cc

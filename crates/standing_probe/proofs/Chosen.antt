@@ -12,6 +12,7 @@ use Rattle.environment_sets.specs.Members.{members, sets}
 use Rattle.environment_sets.specs.Orders.{IsOrder}
 use Rattle.environment_sets.specs.Sets.{Set, ◌⊆◌, no_elements, only, ◌∪◌, IsBelow}
 use Rattle.environment_sets.proofs.Membership.{IsIn-append, IsIn-left, IsIn-slice_get, map-IsIn}
+use Rattle.environment_sets.proofs.Ranges.{last_or_before, is_only, only_is}
 use Rattle.standing_view.specs.Standing.{Stands, IsStanding, order_of, parts_of}
 use Rattle.standing_view.specs.Positions.{positions, AreInParts, AreSlotsAt}
 use Rattle.standing_probe.specs.Ranges.{AreInRange}
@@ -24,15 +25,6 @@ pub record AreChosenBelow (st : Stands) (C : Set ℕ) (n : ℕ) (E : Set ℕ) : 
 
 pub none_chosen : (st : Stands) (C E : Set ℕ) → E ≡ no_elements → AreChosenBelow st C 0 E
 none_chosen st C E is = record { sound = λ k h. absurd (false≢true (subst (λ (F : Set ℕ). IsTrue (F k)) is h)); all = λ i k low at h. absurd (omega arith) }
-
-last_or_before : (i n : ℕ) → i < n + 1 → (i ≡ n) ⊎ (i < n)
-last_or_before i n low = grind arith
-
-is_only : (k slot : ℕ) → k ≡ slot → IsTrue (only slot k)
-is_only k slot e = grind (arith, nat_tests)
-
-only_is : (k slot : ℕ) → IsTrue (only slot k) → k ≡ slot
-only_is k slot h = grind (arith, nat_tests)
 
 same_some : (j k : ℕ) → Some j ≡ Some k → j ≡ k
 same_some j k e = cc

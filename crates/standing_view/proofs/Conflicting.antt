@@ -24,7 +24,7 @@ use Rattle.environment_sets.specs.Lists.{IsIn, IsRising, AreDistinct, IsListing,
 use Rattle.environment_sets.specs.Members.{sets, HasMember}
 use Rattle.environment_sets.specs.Orders.{ComesBefore, ListsAll}
 use Rattle.environment_sets.specs.Sets.{Set, ◌⊆◌, ◌∪◌, ◌∩◌, IsBelow}
-use Rattle.environment_sets.proofs.Membership.{IsIn-left, IsIn-right, IsIn-slice_get, IsIn-map, map-IsIn}
+use Rattle.environment_sets.proofs.Membership.{IsIn-left, IsIn-right, IsIn-slice_get, IsIn-map, map-IsIn, not_in_both}
 use Rattle.label_engine.proofs.Masks.{inside_of}
 use Rattle.standing_view.specs.Standing.{Stands, IsStanding, parts_of, readings_of, mask_of, order_of}
 use Rattle.standing_view.specs.View.{StandsFor, place_of, slot_of, places}
@@ -75,12 +75,7 @@ mapped_some f None h = h
 mapped_some f (Some x) h = refl
 
 pub standing_of : (S : Stock ℕ) (st : Stands) (P : PresentView) (parked : List Fact) → StandsFor S st P parked → (k : ℕ) → IsTrue (parts_of st k) → IsTrue (readings_of st k) → ⊥
-standing_of S st P parked r k part reading = apart st.parts st.slots r.order.distinct k (among_listed st.parts k part) (among_listed st.slots k reading)
-  where
-    apart : (xs ys : List ℕ) → AreDistinct (xs ++ ys) → (k : ℕ) → IsIn xs k → IsIn ys k → ⊥
-    apart [] ys d k h l = absurd h
-    apart (x ∷ xs) ys d k (inl e) l = d.0 k (IsIn-right xs ys k l) e
-    apart (x ∷ xs) ys d k (inr h) l = apart xs ys d.1 k h l
+standing_of S st P parked r k part reading = not_in_both st.parts st.slots r.order.distinct k (among_listed st.parts k part) (among_listed st.slots k reading)
 
 module _ (S : Stock ℕ) (st : Stands) (P : PresentView) (parked : List Fact) (r : StandsFor S st P parked) where
   abbrev R : Stock ℕ

@@ -1,5 +1,6 @@
 -- What stands, with one component or one measurement more.
 use Rattle.std.proofs.Common.{◌≡◌, ◌≢◌, ℕ, ◌<◌, ◌⊎◌, inl, inr, List, [], ◌∷◌, ◌++◌, map, Option, Some, None, IsSome, refl, sym, ap, ap₂, subst, ◌∙◌, arith}
+use Rattle.std.proofs.lemmas.Bool.{cases_eq}
 use Rattle.std.specs.List.{insert}
 use Rattle.std.proofs.lemmas.List.{map_push}
 use Rattle.circuit_model.specs.declared.model.Cell.{Cell}
@@ -19,9 +20,6 @@ use Rattle.standing_view.specs.Laws.{OneComponentMore, OneMeasurementMore}
 use Rattle.standing_view.proofs.Aligned.{one_alike}
 use Rattle.standing_view.proofs.Inserted.{map-insert, order_more, order_inserted, kept_inserted, there_inserted, in_inserted, rising_inserted, reading_inserted, not_measured}
 use Rattle.standing_view.proofs.Named.{free_slots_do_not_stand}
-
-pub same_or_not : (k n : ℕ) → (n ≡ k) ⊎ (k ≢ n)
-same_or_not k n = grind arith
 
 pub some_is_not_none : (a : Assumption) → Some a ≡ None → ⊥
 some_is_not_none a e = cc
@@ -128,21 +126,21 @@ module _ (S R : Stock ℕ) (st : Stands) (P : PresentView) (parked : List Fact) 
 
   -- a reading that is remembered nowhere is remembered once
   still_once : ((k : ℕ) (g : Fact) → what ≡ Reading g → S k ≡ Some (Reading g) → ⊥) → (k l : ℕ) (g : Fact) → R k ≡ Some (Reading g) → R l ≡ Some (Reading g) → k ≡ l
-  still_once never k l g a b = elim (same_or_not k slot) as (λ _. k ≡ l) [
-    | inl e ↦ elim (same_or_not l slot) as (λ _. k ≡ l) [ inl d ↦ sym e ∙ d | inr nl ↦ absurd (never l g (is_new k e a) (sym (m.others l nl) ∙ b)) ]
-    | inr nk ↦ elim (same_or_not l slot) as (λ _. k ≡ l) [
+  still_once never k l g a b = elim (cases_eq k slot) as (λ _. k ≡ l) [
+    | inl e ↦ elim (cases_eq l slot) as (λ _. k ≡ l) [ inl d ↦ e ∙ sym d | inr nl ↦ absurd (never l g (is_new k e a) (sym (m.others l nl) ∙ b)) ]
+    | inr nk ↦ elim (cases_eq l slot) as (λ _. k ≡ l) [
       | inl d ↦ absurd (never k g (is_new l d b) (sym (m.others k nk) ∙ a))
       | inr nl ↦ r.once k l g (sym (m.others k nk) ∙ a) (sym (m.others l nl) ∙ b)
     ]
   ]
     where
-      is_new : (j : ℕ) → slot ≡ j → R j ≡ Some (Reading g) → what ≡ Reading g
-      is_new j e at = same_assumption what (Reading g) (sym m.there ∙ (ap R e ∙ at))
+      is_new : (j : ℕ) → j ≡ slot → R j ≡ Some (Reading g) → what ≡ Reading g
+      is_new j e at = same_assumption what (Reading g) (sym m.there ∙ (ap R (sym e) ∙ at))
 
   -- what is remembered is the new assumption or was remembered before
   all_stand : (now : Stands) → IsIn (order_of now) slot → ((k : ℕ) → IsIn (order_of st) k → IsIn (order_of now) k) → (k : ℕ) → IsSome (R k) → IsIn (order_of now) k ⊎ IsReadingOf R parked k
-  all_stand now there kept k h = elim (same_or_not k slot) as (λ _. IsIn (order_of now) k ⊎ IsReadingOf R parked k) [
-    | inl e ↦ inl (subst (λ (j : ℕ). IsIn (order_of now) j) e there)
+  all_stand now there kept k h = elim (cases_eq k slot) as (λ _. IsIn (order_of now) k ⊎ IsReadingOf R parked k) [
+    | inl e ↦ inl (subst (λ (j : ℕ). IsIn (order_of now) j) (sym e) there)
     | inr ne ↦ elim (r.all k (subst (λ (o : Option Assumption). IsSome o) (m.others k ne) h)) as (λ _. IsIn (order_of now) k ⊎ IsReadingOf R parked k) [
       | inl l ↦ inl (kept k l)
       | inr p ↦ inr (record { reading = p.reading; listed = p.listed; remembered = m.others k ne ∙ p.remembered })

@@ -1,7 +1,7 @@
 -- The mask with one slot more.
 use Rattle.std.proofs.Common.{◌≡◌, ℕ, ◌⊎◌, inl, inr, IsTrue, List, [], ◌∷◌, ◌++◌, refl}
 use Rattle.std.specs.List.{insert}
-use Rattle.std.proofs.lemmas.Bool.{or_cases, or_left, or_right}
+use Rattle.std.proofs.lemmas.Bool.{or_cases, or_left, or_right, eqb-true, eq-eqb}
 use Rattle.circuit_model.specs.declared.model.Cell.{Cell}
 use Rattle.circuit_model.proofs.Settled.{same_set}
 use Rattle.environment_sets.specs.Sets.{only, ◌∪◌}
@@ -10,14 +10,14 @@ use Rattle.environment_sets.proofs.Listings.{IsIn-push, IsIn-front, IsIn-last}
 use Rattle.environment_sets.proofs.Membership.{IsIn-append, IsIn-left, IsIn-right}
 use Rattle.standing_view.specs.Standing.{Stands, is_among, parts_of, readings_of, mask_of, order_of, place_among, with_part_at, with_reading_at}
 use Rattle.standing_view.proofs.Inserted.{in_inserted, kept_inserted, there_inserted}
-use Rattle.standing_view.proofs.Places.{same_number, itself, among_listed, listed_among}
+use Rattle.standing_view.proofs.Places.{among_listed, listed_among}
 
 -- a list with what another has, and one number more
 among_more : (xs ys : List ℕ) (z : ℕ) → IsIn ys z → ((k : ℕ) → IsIn xs k → IsIn ys k) → ((k : ℕ) → IsIn ys k → (z ≡ k) ⊎ IsIn xs k) → is_among xs ∪ only z ≡ is_among ys
 among_more xs ys z there kept from = same_set (is_among xs ∪ only z) (is_among ys)
     (λ k h. elim (or_cases (is_among xs k) (only z k) h) as (λ _. IsTrue (is_among ys k)) [
       | inl old ↦ listed_among ys k (kept k (among_listed xs k old))
-      | inr new ↦ listed_among ys k (at k (same_number k z new))
+      | inr new ↦ listed_among ys k (at k (eqb-true k z new))
     ])
     (λ k h. elim (from k (among_listed ys k h)) as (λ _. IsTrue ((is_among xs ∪ only z) k)) [
       | inl e ↦ or_right (is_among xs k) (only z k) (is_only k e)
@@ -28,7 +28,7 @@ among_more xs ys z there kept from = same_set (is_among xs ∪ only z) (is_among
     at k e = rw e there
 
     is_only : (k : ℕ) → z ≡ k → IsTrue (only z k)
-    is_only k e = rw (← e) (itself z)
+    is_only k e = rw (← e) (eq-eqb z z refl)
 
 module _ (st : Stands) (slot : ℕ) where
   pub part_among : parts_of st ∪ only slot ≡ parts_of (with_part_at slot st)

@@ -137,7 +137,7 @@ module _ (S : Stock ℕ) (st : Stands) (P : PresentView) (parked : List Fact) (r
   inside_mask : (k : ℕ) (m : Place) → Beside k m → IsTrue (mask_of st k)
   inside_mask k m h = listed_among (order_of st) k (in_first (order_of st) (places_in_order (length st.parts) st.cells) k m h)
 
-  within_is : (k : ℕ) → IsTrue (mask_of st k) → within (mask_of st) S k ≡ S k
+  pub within_is : (k : ℕ) → IsTrue (mask_of st k) → within (mask_of st) S k ≡ S k
   within_is k h = rw h refl
 
   pub within_inside : (k : ℕ) → IsSome (within (mask_of st) S k) → IsTrue (mask_of st k)

@@ -1,7 +1,7 @@
 -- Readings that are parked, stand again, and are forgotten.
 use Rattle.std.proofs.Common.{◌≡◌, ◌≢◌, ℕ, zero, suc, ◌<◌, ◌==◌, ◌⊎◌, inl, inr, Bool, true, false, not, IsTrue, List, [], ◌∷◌, map, Option, Some, None, IsSome, refl, sym, ap, subst, ◌∙◌}
 use Rattle.std.specs.List.{remove, slice_get}
-use Rattle.std.proofs.lemmas.Bool.{not-true, both_ways}
+use Rattle.std.proofs.lemmas.Bool.{not-true, both_ways, cases_eq}
 use Rattle.circuit_model.specs.declared.model.Cell.{Cell}
 use Rattle.circuit_model.specs.declared.model.Fact.{Fact}
 use Rattle.circuit_model.specs.declared.model.Assumption.{Assumption}
@@ -15,10 +15,11 @@ use Rattle.environment_sets.proofs.Listings.{IsIn-filter, IsIn-kept}
 use Rattle.standing_view.specs.Standing.{Stands, order_of, place_among, with_reading_at, without_reading_at}
 use Rattle.standing_view.specs.View.{StandsFor, IsParked, IsReadingOf, without_fact}
 use Rattle.standing_view.specs.Laws.{AReadingIsParked, AParkedReadingStands, AParkedReadingIsForgotten}
-use Rattle.standing_view.proofs.Growing.{same_or_not, some_is_not_none, same_reading, one_reading_more, parts_as_before, slots_as_before}
+use Rattle.standing_view.proofs.Growing.{some_is_not_none, same_reading, one_reading_more, parts_as_before, slots_as_before}
 use Rattle.standing_view.proofs.Inserted.{in_inserted, kept_inserted, there_inserted}
 use Rattle.circuit_model.proofs.SameCells.{fact_itself, other_fact}
-use Rattle.standing_view.proofs.Removed.{map-remove, rising_removed, order_removed, in_removed, this_or_removed, not_in_removed}
+use Rattle.circuit_model.proofs.Presents.{IsIn-front_remove, map-remove}
+use Rattle.standing_view.proofs.Removed.{rising_removed, order_removed, this_or_removed, not_in_removed}
 
 -- another reading than this one is among the others
 pub among_others : (f g : Fact) (readings : List Fact) → IsIn readings g → (f ≡ g → ⊥) → IsIn (without_fact f readings) g
@@ -59,7 +60,7 @@ module _ (S : Stock ℕ) (st : Stands) (P : PresentView) (parked : List Fact) (r
     })
     parked_now g (inr h) =
         let p : IsParked S st g = r.each_parked g h in
-        record { slot = p.slot; below = p.below; remembered = p.remembered; apart = λ h. p.apart (in_removed st.parts st.slots place p.slot h) }
+        record { slot = p.slot; below = p.below; remembered = p.remembered; apart = λ h. p.apart (IsIn-front_remove st.parts st.slots place p.slot h) }
 
     stands_or_parked : (j : ℕ) → IsSome (S j) → IsIn (order_of Less) j ⊎ IsReadingOf S (f ∷ parked) j
     stands_or_parked j h = elim (r.all j h) as (λ _. IsIn (order_of Less) j ⊎ IsReadingOf S (f ∷ parked) j) [
@@ -118,13 +119,19 @@ a_parked_reading_stands S st P parked slot f r free h at =
         }
 
     all : (k : ℕ) → IsSome (S k) → IsIn (order_of (with_reading_at slot f.cell st)) k ⊎ IsReadingOf S (without_fact f parked) k
-    all k some = elim (same_or_not k slot) as (λ _. IsIn (order_of (with_reading_at slot f.cell st)) k ⊎ IsReadingOf S (without_fact f parked) k) [
-      | inl e ↦ inl (subst (λ (k : ℕ). IsIn (order_of (with_reading_at slot f.cell st)) k) e (there_inserted st.parts st.slots (place_among f.cell st.cells) slot))
+    all k some = elim (cases_eq k slot) as (λ _. IsIn (order_of (with_reading_at slot f.cell st)) k ⊎ IsReadingOf S (without_fact f parked) k) [
+      | inl e ↦ inl (subst (λ (k : ℕ). IsIn (order_of (with_reading_at slot f.cell st)) k) (sym e) (there_inserted st.parts st.slots (place_among f.cell st.cells) slot))
       | inr ne ↦ elim (r.all k some) as (λ _. IsIn (order_of (with_reading_at slot f.cell st)) k ⊎ IsReadingOf S (without_fact f parked) k) [
         | inl l ↦ inl (kept_inserted st.parts st.slots (place_among f.cell st.cells) slot k l)
         | inr p ↦ inr (record { reading = p.reading; listed = among_others f p.reading parked p.listed (another_reading S st P parked r f p.reading slot k at p.remembered ne); remembered = p.remembered })
       ]
     ]
+
+-- what is remembered now was remembered before, at another slot
+pub remembered_before : (S R : Stock ℕ) (slot : ℕ) (what : Assumption) → Forgets S slot what R → (k : ℕ) (a : Assumption) → R k ≡ Some a → (k ≢ slot) × (S k ≡ Some a)
+remembered_before S R slot what m k a at =
+    let ne : k ≢ slot = λ e. some_is_not_none a (sym at ∙ (ap R e ∙ m.free)) in
+    (ne, sym (m.others k ne) ∙ at)
 
 pub a_parked_reading_is_forgotten : AParkedReadingIsForgotten
 a_parked_reading_is_forgotten S R st P parked slot f r h m =
@@ -137,15 +144,10 @@ a_parked_reading_is_forgotten S R st P parked slot f r h m =
       order = r.order;
       rising = r.rising;
       each_parked = each_parked;
-      once = λ k l g a b. r.once k l g (before k (Reading g) a).1 (before l (Reading g) b).1;
+      once = λ k l g a b. r.once k l g (remembered_before S R slot (Reading f) m k (Reading g) a).1 (remembered_before S R slot (Reading f) m l (Reading g) b).1;
       all = all;
     }
   where
-    before : (k : ℕ) (a : Assumption) → R k ≡ Some a → (k ≢ slot) × (S k ≡ Some a)
-    before k a at =
-        let ne : k ≢ slot = λ e. some_is_not_none a (sym at ∙ (ap R e ∙ m.free)) in
-        (ne, sym (m.others k ne) ∙ at)
-
     each_parked : (g : Fact) → IsIn (without_fact f parked) g → IsParked R st g
     each_parked g l =
         let other : IsOther f g parked = is_other f g parked l in

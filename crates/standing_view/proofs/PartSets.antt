@@ -1,7 +1,7 @@
 -- Sets of component slots, and of positions.
 use Rattle.std.proofs.Common.{◌≡◌, ℕ, zero, suc, ◌+◌, ◌<◌, ◌==◌, ◌&&◌, ◌||◌, inl, inr, Bool, true, false, cond, not, IsTrue, true≢false, List, [], ◌∷◌, ◌++◌, length, map, Some, Ordering, Less, Equal, Greater, nat_cmp, refl, sym, ap, ap₂, subst, ◌∙◌, arith, zero-add}
 use Rattle.std.specs.List.{slice_get, range_with_len, count_by}
-use Rattle.std.proofs.lemmas.Bool.{or_cases, or_left, or_right, false_from_ne_true}
+use Rattle.std.proofs.lemmas.Bool.{or_cases, or_left, or_right, false_from_ne_true, eqb-true, eq-eqb}
 use Rattle.std.proofs.lemmas.List.Sums.{sum_by-append}
 use Rattle.std.proofs.lemmas.Option.{slice_get_within}
 use Rattle.circuit_model.proofs.Renaming.{passes-elim, passes-intro}
@@ -10,11 +10,11 @@ use Rattle.environment_sets.specs.Lists.{IsIn, AreDistinct}
 use Rattle.environment_sets.specs.Orders.{by_first, compare_in, first_of_both}
 use Rattle.environment_sets.specs.Sets.{Set, ◌⊆◌, Hits, HitsEach, IsMinimalHittingSet}
 use Rattle.environment_sets.proofs.Counting.{count_by-cons}
-use Rattle.environment_sets.proofs.Membership.{IsIn-slice_get, slice_get-IsIn, IsRising-left, IsIn-map, map-IsIn}
+use Rattle.environment_sets.proofs.Membership.{IsIn-slice_get, slice_get-IsIn, IsRising-left, IsIn-map, map-IsIn, one_place, not_in_both, at_place}
 use Rattle.standing_view.specs.Standing.{Stands, IsStanding, parts_of, order_of}
 use Rattle.standing_view.specs.Positions.{positions, positions_in_order, AreSlotsAt, PositionsAreInRange, PositionsHaveSlots, PositionsKeepSubsets, PositionsKeepTheOrder, AreInParts, HittingSetsAreSlots, PositionsKeepHittingSets}
 use Rattle.standing_view.proofs.Orders.{same_comparison}
-use Rattle.standing_view.proofs.Places.{same_number, itself, among_listed, listed_among}
+use Rattle.standing_view.proofs.Places.{among_listed, listed_among}
 
 -- the position of a slot, and the slot of a position
 pub position_of : (st : Stands) (k : ℕ) → IsTrue (parts_of st k) → (i : ℕ) × (slice_get st.parts i ≡ Some k)
@@ -62,31 +62,18 @@ slots_have : (xs : List ℕ) (C : Set ℕ) (k : ℕ) → IsTrue (slots_at xs C k
 unfolding slots_at
 slots_have [] C k h = absurd (true≢false (sym h))
 slots_have (x ∷ xs) C k h = elim (or_cases (C 0 && (k == x)) (slots_at xs (λ i. C (suc i)) k) h) [
-  | inl here ↦ let r : IsTrue (C 0) × IsTrue (k == x) = and_both (C 0) (k == x) here in (0, ap Some (sym (same_number k x r.1)), r.0)
+  | inl here ↦ let r : IsTrue (C 0) × IsTrue (k == x) = and_both (C 0) (k == x) here in (0, ap Some (sym (eqb-true k x r.1)), r.0)
   | inr later ↦ let r : (i : ℕ) × (slice_get xs i ≡ Some k) × IsTrue (C (suc i)) = slots_have xs (λ i. C (suc i)) k later in (suc r.0, r.1, r.2)
 ]
 
 have_slots : (xs : List ℕ) (C : Set ℕ) (i k : ℕ) → slice_get xs i ≡ Some k → IsTrue (C i) → IsTrue (slots_at xs C k)
 unfolding slots_at
 have_slots [] C i k e h = cc
-have_slots (x ∷ xs) C zero k e h = let same : x ≡ k = cc in or_left (C 0 && (k == x)) (slots_at xs (λ i. C (suc i)) k) (both_and (C 0) (k == x) h (subst (λ (y : ℕ). IsTrue (k == y)) (sym same) (itself k)))
+have_slots (x ∷ xs) C zero k e h = let same : x ≡ k = cc in or_left (C 0 && (k == x)) (slots_at xs (λ i. C (suc i)) k) (both_and (C 0) (k == x) h (subst (λ (y : ℕ). IsTrue (k == y)) (sym same) (eq-eqb k k refl)))
 have_slots (x ∷ xs) C (suc i) k e h = or_right (C 0 && (k == x)) (slots_at xs (λ i. C (suc i)) k) (have_slots xs (λ j. C (suc j)) i k e h)
-
--- a slot has one position
-one_position : (xs : List ℕ) (i j k : ℕ) → AreDistinct xs → slice_get xs i ≡ Some k → slice_get xs j ≡ Some k → i ≡ j
-one_position [] i j k apart e f = cc
-one_position (x ∷ xs) zero zero k apart e f = refl
-one_position (x ∷ xs) zero (suc j) k apart e f = absurd (apart.0 k (IsIn-slice_get xs j k f) (cc))
-one_position (x ∷ xs) (suc i) zero k apart e f = absurd (apart.0 k (IsIn-slice_get xs i k e) (cc))
-one_position (x ∷ xs) (suc i) (suc j) k apart e f = ap suc (one_position xs i j k apart.1 e f)
 
 parts_distinct : (st : Stands) → IsStanding st → AreDistinct st.parts
 parts_distinct st is = IsRising-left (λ x y. x ≡ y → ⊥) st.parts st.slots is.order.distinct
-
-at_place : (xs : List ℕ) (i : ℕ) → i < length xs → (k : ℕ) × (slice_get xs i ≡ Some k)
-at_place [] i low = absurd (omega arith)
-at_place (x ∷ xs) zero low = (x, refl)
-at_place (x ∷ xs) (suc i) low = at_place xs i (omega arith)
 
 pub positions_have_slots : PositionsHaveSlots
 positions_have_slots st is C low = (
@@ -106,7 +93,7 @@ positions_have_slots st is C low = (
         (λ i h.
         let k : (k : ℕ) × (slice_get st.parts i ≡ Some k) × IsTrue (slots_at st.parts C k) = passes-elim (slots_at st.parts C) (slice_get st.parts i) h in
         let j : (j : ℕ) × (slice_get st.parts j ≡ Some k.0) × IsTrue (C j) = slots_have st.parts C k.0 k.2 in
-        subst (λ (n : ℕ). IsTrue (C n)) (one_position st.parts j.0 i k.0 (parts_distinct st is) j.1 k.1) j.2)
+        subst (λ (n : ℕ). IsTrue (C n)) (one_place st.parts j.0 i k.0 (parts_distinct st is) j.1 k.1) j.2)
         (λ i h.
         let k : (k : ℕ) × (slice_get st.parts i ≡ Some k) = at_place st.parts i (low i h) in
         at_position st (slots_at st.parts C) i k.0 k.1 (have_slots st.parts C i k.0 k.1 h))
@@ -149,17 +136,8 @@ by_position E C (x ∷ xs) i same =
     ap₂ (λ (b : Bool) (bs : List Bool). b ∷ bs) head tail
 
 module _ (st : Stands) (is : IsStanding st) where
-  -- a component's slot is no measurement's
-  apart_from : (xs ys : List ℕ) → AreDistinct (xs ++ ys) → (k : ℕ) → IsIn xs k → IsIn ys k → ⊥
-  apart_from [] ys apart k h l = absurd h
-  apart_from (x ∷ xs) ys apart k (inl e) l = apart.0 k (right xs ys k l) e where
-    right : (xs ys : List ℕ) (k : ℕ) → IsIn ys k → IsIn (xs ++ ys) k
-    right [] ys k h = h
-    right (x ∷ xs) ys k h = inr (right xs ys k h)
-  apart_from (x ∷ xs) ys apart k (inr h) l = apart_from xs ys apart.1 k h l
-
   pub no_measurement : (E : Set ℕ) → E ⊆ parts_of st → (k : ℕ) → IsIn st.slots k → E k ≡ false
-  no_measurement E inside k h = false_from_ne_true (E k) (λ is_in. apart_from st.parts st.slots is.order.distinct k (among_listed st.parts k (inside k is_in)) h)
+  no_measurement E inside k h = false_from_ne_true (E k) (λ is_in. not_in_both st.parts st.slots is.order.distinct k (among_listed st.parts k (inside k is_in)) h)
 
   same_at_positions : (E : Set ℕ) → map E st.parts ≡ map (positions st E) (positions_in_order st)
   same_at_positions E = by_position E (positions st E) st.parts 0 (λ j k e. ap (λ (n : ℕ). positions st E n) (zero-add j) ∙ (rw e refl))

@@ -1,7 +1,7 @@
 -- What is chosen of a set of slots.
 use Rattle.std.proofs.Common.{◌≡◌, ℕ, zero, suc, ◌+◌, ◌<◌, ◌==◌, inl, inr, Bool, true, false, cond, IsTrue, List, [], ◌∷◌, ◌++◌, length, take, Some, refl, sym, ap, subst, ◌∙◌, arith, zero-add}
 use Rattle.std.specs.List.{filter, list_any, slice_get, range_with_len}
-use Rattle.std.proofs.lemmas.Bool.{or_cases, or_left, or_right, false≢true}
+use Rattle.std.proofs.lemmas.Bool.{or_cases, or_left, or_right, false≢true, eqb-true, eq-eqb}
 use Rattle.std.proofs.lemmas.List.Elements.{filter-append}
 use mathlib.Core.Path.{fun_ext}
 use Rattle.circuit_model.specs.declared.model.Cell.{Cell}
@@ -14,6 +14,7 @@ use Rattle.environment_sets.specs.Sets.{Set}
 use Rattle.environment_sets.specs.Lists.{IsIn}
 use Rattle.environment_sets.proofs.Listings.{IsIn-filter, IsIn-kept}
 use Rattle.environment_sets.proofs.Membership.{IsIn-slice_get, same_bool}
+use Rattle.environment_sets.proofs.Ranges.{in_range, to_range, range_more}
 use Rattle.standing_view.specs.Standing.{Stands, AreInOrder}
 use Rattle.standing_view.specs.View.{places, slot_of}
 use Rattle.standing_view.specs.Positions.{positions, positions_in_order}
@@ -21,22 +22,6 @@ use Rattle.standing_view.specs.Choosing.{has_cell}
 use Rattle.standing_view.proofs.Aligned.{StandBeside, finds}
 use Rattle.standing_view.proofs.Aligned as aligned
 use Rattle.standing_view.proofs.PartSets.{positions_are_in_range}
-use Rattle.standing_view.proofs.Places.{same_number, itself}
-
--- one number more
-range_push : (a n : ℕ) → range_with_len a (suc n) ≡ range_with_len a n ++ (a + n) ∷ []
-range_push a zero = let n : a ≡ a + 0 = omega arith in ap (λ (m : ℕ). m ∷ []) n
-range_push a (suc n) = let m : (a + 1) + n ≡ a + suc n = omega arith in ap (λ (xs : List ℕ). a ∷ xs) (range_push (a + 1) n ∙ ap (λ (k : ℕ). range_with_len (a + 1) n ++ k ∷ []) m)
-
-in_range : (a n i : ℕ) → IsIn (range_with_len a n) i → i < a + n
-in_range a zero i h = absurd h
-in_range a (suc n) i (inl e) = omega arith
-in_range a (suc n) i (inr h) = let low : i < (a + 1) + n = in_range (a + 1) n i h in omega arith
-
-to_range : (a n i : ℕ) → i < n → IsIn (range_with_len a n) (a + i)
-to_range a zero i low = absurd (omega arith)
-to_range a (suc n) zero low = inl (omega arith)
-to_range a (suc n) (suc i) low = let m : (a + 1) + i ≡ a + suc i = omega arith in inr (subst (IsIn (range_with_len (a + 1) n)) m (to_range (a + 1) n i (omega arith)))
 
 filter_one : {X : Type 0} (p : X → Bool) (x : X) → filter p (x ∷ []) ≡ cond (p x) (x ∷ []) []
 filter_one p x = elim (p x) as (λ b. p x ≡ b → filter p (x ∷ []) ≡ cond b (x ∷ []) []) [ true ↦ λ e. rw e refl | false ↦ λ e. rw e refl ] refl
@@ -46,22 +31,20 @@ filter_one p x = elim (p x) as (λ b. p x ≡ b → filter p (x ∷ []) ≡ cond
 module _ (p : ℕ → Bool) (n : ℕ) where
   pub positions_more : (list : List ℕ) (chosen : Bool) → list ≡ filter p (range_with_len 0 n) ++ cond chosen (n ∷ []) [] → chosen ≡ p n → list ≡ filter p (range_with_len 0 (n + 1))
   positions_more list chosen is same =
-      let one : n + 1 ≡ suc n = omega arith in
-      let more : range_with_len 0 (n + 1) ≡ range_with_len 0 n ++ n ∷ [] = ap (λ (m : ℕ). range_with_len 0 m) one ∙ (range_push 0 n ∙ ap (λ (k : ℕ). range_with_len 0 n ++ k ∷ []) (zero-add n)) in
       is
       ∙ (ap (λ (b : Bool). filter p (range_with_len 0 n) ++ cond b (n ∷ []) []) same
-      ∙ (ap (λ (xs : List ℕ). filter p (range_with_len 0 n) ++ xs) (sym (filter_one p n)) ∙ (sym (filter-append p (range_with_len 0 n) (n ∷ [])) ∙ ap (filter p) (sym more))))
+      ∙ (ap (λ (xs : List ℕ). filter p (range_with_len 0 n) ++ xs) (sym (filter_one p n)) ∙ (sym (filter-append p (range_with_len 0 n) (n ∷ [])) ∙ ap (filter p) (sym (range_more n)))))
 
   pub positions_below : (i : ℕ) → IsIn (filter p (range_with_len 0 n)) i → i < n
-  positions_below i h = let low : i < 0 + n = in_range 0 n i (IsIn-filter p (range_with_len 0 n) i h).0 in omega arith
+  positions_below i h = let low : i < 0 + n = (in_range 0 n i (IsIn-filter p (range_with_len 0 n) i h).0).1 in omega arith
 
 any_number : (xs : List ℕ) (i : ℕ) → IsTrue (list_any (λ j. j == i) xs) → IsIn xs i
 any_number [] i h = absurd (false≢true h)
-any_number (x ∷ xs) i h = elim (or_cases (x == i) (list_any (λ j. j == i) xs) h) as (λ _. IsIn (x ∷ xs) i) [ inl here ↦ inl (same_number x i here) | inr later ↦ inr (any_number xs i later) ]
+any_number (x ∷ xs) i h = elim (or_cases (x == i) (list_any (λ j. j == i) xs) h) as (λ _. IsIn (x ∷ xs) i) [ inl here ↦ inl (eqb-true x i here) | inr later ↦ inr (any_number xs i later) ]
 
 number_any : (xs : List ℕ) (i : ℕ) → IsIn xs i → IsTrue (list_any (λ j. j == i) xs)
 number_any [] i h = absurd h
-number_any (x ∷ xs) i (inl e) = or_left (x == i) (list_any (λ j. j == i) xs) (subst (λ (k : ℕ). IsTrue (k == i)) (sym e) (itself i))
+number_any (x ∷ xs) i (inl e) = or_left (x == i) (list_any (λ j. j == i) xs) (subst (λ (k : ℕ). IsTrue (k == i)) (sym e) (eq-eqb i i refl))
 number_any (x ∷ xs) i (inr h) = or_right (x == i) (list_any (λ j. j == i) xs) (number_any xs i h)
 
 any_cell : (xs : List Cell) (c : Cell) → IsTrue (list_any (λ d. is_cell d c) xs) → IsIn xs c

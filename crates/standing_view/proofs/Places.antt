@@ -1,7 +1,7 @@
 -- The slots that stand, and the places of a present.
 use Rattle.std.proofs.Common.{◌≡◌, ℕ, zero, suc, ◌+◌, inl, inr, true, ◌==◌, IsTrue, true≢false, List, [], ◌∷◌, length, map, Some, refl, sym, ap, ap₂, subst, ◌∙◌, arith, zero-add}
 use Rattle.std.specs.List.{slice_get, range_with_len}
-use Rattle.std.proofs.lemmas.Bool.{or_cases, or_right}
+use Rattle.std.proofs.lemmas.Bool.{or_cases, or_right, eqb-true, eq-eqb}
 use Rattle.std.proofs.lemmas.Bool.Decides.{nat_tests}
 use Rattle.std.proofs.lemmas.List.{length-map, length-append}
 use Rattle.std.proofs.lemmas.List.FromFn.{length-map-range_with_len}
@@ -15,12 +15,6 @@ use Rattle.circuit_model.specs.Whole.{places_in_order}
 use Rattle.standing_view.specs.View.{slot_of, place_of}
 use Rattle.standing_view.proofs.Aligned.{StandBeside, left_or_right, on_left, on_right, finds, is_found}
 
-pub same_number : (j k : ℕ) → IsTrue (j == k) → j ≡ k
-same_number j k h = grind (arith, nat_tests)
-
-pub itself : (k : ℕ) → IsTrue (k == k)
-itself k = grind (arith, nat_tests)
-
 -- cells in order are distinct
 pub ordered_are_distinct : (cells : List Cell) → AreInOrder cells → AreDistinct cells
 ordered_are_distinct [] h = tt
@@ -29,7 +23,7 @@ ordered_are_distinct (c ∷ cells) h =
 
 pub among_listed : (xs : List ℕ) (k : ℕ) → IsTrue (is_among xs k) → IsIn xs k
 among_listed [] k h = absurd (true≢false (sym h))
-among_listed (x ∷ xs) k h = elim (or_cases (k == x) (is_among xs k) h) as (λ _. IsIn (x ∷ xs) k) [ inl here ↦ inl (sym (same_number k x here)) | inr later ↦ inr (among_listed xs k later) ]
+among_listed (x ∷ xs) k h = elim (or_cases (k == x) (is_among xs k) h) as (λ _. IsIn (x ∷ xs) k) [ inl here ↦ inl (sym (eqb-true k x here)) | inr later ↦ inr (among_listed xs k later) ]
 
 pub listed_among : (xs : List ℕ) (k : ℕ) → IsIn xs k → IsTrue (is_among xs k)
 listed_among [] k h = absurd h
@@ -105,10 +99,10 @@ module _ (st : Stands) (rising : AreInOrder st.cells) where
 module _ (st : Stands) (distinct : AreDistinct (order_of st)) (k : ℕ) (m : Place) where
   -- the place of the slot that it stands beside
   pub place_is : StandBeside (order_of st) (places_in_order (length st.parts) st.cells) k m → place_of st k ≡ Some m
-  place_is h = is_found (λ slot. slot == k) (order_of st) (places_in_order (length st.parts) st.cells) k m distinct (itself k) (λ x e. same_number x k e) h
+  place_is h = is_found (λ slot. slot == k) (order_of st) (places_in_order (length st.parts) st.cells) k m distinct (eq-eqb k k refl) (λ x e. eqb-true x k e) h
 
 module _ (st : Stands) (k : ℕ) (m : Place) where
   pub place_stands : place_of st k ≡ Some m → StandBeside (order_of st) (places_in_order (length st.parts) st.cells) k m
   place_stands e =
       let r : (x : ℕ) × StandBeside (order_of st) (places_in_order (length st.parts) st.cells) x m × IsTrue (x == k) = finds (λ slot. slot == k) (order_of st) (places_in_order (length st.parts) st.cells) m e in
-      subst (λ (x : ℕ). StandBeside (order_of st) (places_in_order (length st.parts) st.cells) x m) (same_number r.0 k r.2) r.1
+      subst (λ (x : ℕ). StandBeside (order_of st) (places_in_order (length st.parts) st.cells) x m) (eqb-true r.0 k r.2) r.1

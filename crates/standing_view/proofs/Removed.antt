@@ -5,24 +5,14 @@ use Rattle.std.proofs.lemmas.List.{map-append, take-map, drop-map}
 use Rattle.environment_sets.specs.Lists.{IsIn, IsRising, AreDistinct}
 use Rattle.environment_sets.specs.Orders.{IsOrder}
 use Rattle.environment_sets.proofs.Membership.{IsIn-right, IsIn-slice_get}
-
-module _ {X Y : Type 0} (f : X → Y) where
-  pub map-remove : (xs : List X) (i : ℕ) → map f (remove xs i) ≡ remove (map f xs) i
-  map-remove xs i = map-append f (take i xs) (drop (suc i) xs) ∙ ap₂ (λ (as' bs : List Y). as' ++ bs) (sym (take-map f i xs)) (sym (drop-map f (suc i) xs))
+use Rattle.circuit_model.proofs.Presents.{IsIn-front_remove, AreDistinct-front_remove}
 
 module _ {X : Type 0} where
-  in_rest : (ys : List X) (i : ℕ) (x : X) → IsIn (remove ys i) x → IsIn ys x
-  in_rest [] zero x h = h
-  in_rest [] (suc i) x h = h
-  in_rest (y ∷ ys) zero x h = inr h
-  in_rest (y ∷ ys) (suc i) x (inl e) = inl e
-  in_rest (y ∷ ys) (suc i) x (inr h) = inr (in_rest ys i x h)
-
-  rising_rest : (before : X → X → Type 0) (ys : List X) (i : ℕ) → IsRising before ys → IsRising before (remove ys i)
-  rising_rest before [] zero h = tt
-  rising_rest before [] (suc i) h = tt
-  rising_rest before (y ∷ ys) zero h = h.1
-  rising_rest before (y ∷ ys) (suc i) h = ((λ x at. h.0 x (in_rest ys i x at)), rising_rest before ys i h.1)
+  pub rising_removed : (before : X → X → Type 0) (ys : List X) (i : ℕ) → IsRising before ys → IsRising before (remove ys i)
+  rising_removed before [] zero h = tt
+  rising_removed before [] (suc i) h = tt
+  rising_removed before (y ∷ ys) zero h = h.1
+  rising_removed before (y ∷ ys) (suc i) h = ((λ x at. h.0 x (IsIn-front_remove [] ys i x at)), rising_removed before ys i h.1)
 
   this_or_rest : (ys : List X) (i : ℕ) (z x : X) → slice_get ys i ≡ Some z → IsIn ys x → (z ≡ x) ⊎ IsIn (remove ys i) x
   this_or_rest [] i z x at h = absurd h
@@ -37,18 +27,6 @@ module _ {X : Type 0} where
   not_in_rest (y ∷ ys) (suc i) z apart at (inl e) = apart.0 z (IsIn-slice_get ys i z at) e
   not_in_rest (y ∷ ys) (suc i) z apart at (inr h) = not_in_rest ys i z apart.1 at h
 
-  pub rising_removed : (before : X → X → Type 0) (ys : List X) (i : ℕ) → IsRising before ys → IsRising before (remove ys i)
-  rising_removed before ys i h = rising_rest before ys i h
-
-  pub in_removed : (xs ys : List X) (i : ℕ) (x : X) → IsIn (xs ++ remove ys i) x → IsIn (xs ++ ys) x
-  in_removed [] ys i x h = in_rest ys i x h
-  in_removed (y ∷ xs) ys i x (inl e) = inl e
-  in_removed (y ∷ xs) ys i x (inr h) = inr (in_removed xs ys i x h)
-
-  pub distinct_removed : (xs ys : List X) (i : ℕ) → AreDistinct (xs ++ ys) → AreDistinct (xs ++ remove ys i)
-  distinct_removed [] ys i h = rising_rest (λ x y. x ≡ y → ⊥) ys i h
-  distinct_removed (x ∷ xs) ys i h = ((λ y at. h.0 y (in_removed xs ys i y at)), distinct_removed xs ys i h.1)
-
   -- what stood is the one that is removed, or stands
   pub this_or_removed : (xs ys : List X) (i : ℕ) (z x : X) → slice_get ys i ≡ Some z → IsIn (xs ++ ys) x → (z ≡ x) ⊎ IsIn (xs ++ remove ys i) x
   this_or_removed [] ys i z x at h = this_or_rest ys i z x at h
@@ -61,4 +39,4 @@ module _ {X : Type 0} where
   not_in_removed (x ∷ xs) ys i z apart at (inr h) = not_in_removed xs ys i z apart.1 at h
 
 pub order_removed : (n : ℕ) (xs ys : List ℕ) (i : ℕ) → IsOrder n (xs ++ ys) → IsOrder n (xs ++ remove ys i)
-order_removed n xs ys i o = record { below = λ k h. o.below k (in_removed xs ys i k h); distinct = distinct_removed xs ys i o.distinct }
+order_removed n xs ys i o = record { below = λ k h. o.below k (IsIn-front_remove xs ys i k h); distinct = AreDistinct-front_remove xs ys i o.distinct }

@@ -1,5 +1,6 @@
 -- A slot is free.
 use Rattle.std.proofs.Common.{◌≡◌, ◌≢◌, ℕ, zero, suc, ◌+◌, ◌<◌, ◌≤◌, ◌==◌, inl, inr, Bool, true, false, cond, IsTrue, List, [], ◌∷◌, ◌++◌, length, Some, refl, sym, ap, ap₂, subst, ◌∙◌, arith, lit<}
+use Rattle.std.proofs.lemmas.Bool.{cases_eq}
 use Rattle.std.proofs.lemmas.Bool.Decides.{nat_tests}
 use Rattle.std.proofs.lemmas.List.{length-append, length-map}
 use Rattle.circuit_model.specs.declared.limits.TheConstants.{MOST_PARTS, MOST_READINGS, MOST_EARLIER}
@@ -15,7 +16,6 @@ use Rattle.environment_sets.proofs.Sizes.{size_below-more, size_below-none, size
 use Rattle.standing_view.specs.Standing.{Stands, order_of, is_among}
 use Rattle.standing_view.specs.View.{IsParked}
 use Rattle.standing_view.specs.Laws.{SomeSlotIsFree}
-use Rattle.standing_view.proofs.Growing.{same_or_not}
 use Rattle.standing_view.proofs.Named.{as_many_parts, as_many_slots}
 use Rattle.standing_view.proofs.Places.{listed_among}
 
@@ -54,7 +54,7 @@ module _ (E F : Set ℕ) (x : ℕ) (same : (k : ℕ) → k ≢ x → F k ≡ E k
       let one : suc n ≡ n + 1 = omega arith in
       let larger : size_below (n + 1) F ≡ size_below n F + count_of (F n) = size_below-more n F in
       let large : size_below (n + 1) E ≡ size_below n E + count_of (E n) = size_below-more n E in
-      let at : size_below (n + 1) F ≤ size_below (n + 1) E + 1 = elim (same_or_not n x) as (λ _. size_below (n + 1) F ≤ size_below (n + 1) E + 1) [
+      let at : size_below (n + 1) F ≤ size_below (n + 1) E + 1 = elim (cases_eq n x) as (λ _. size_below (n + 1) F ≤ size_below (n + 1) E + 1) [
         | inl e ↦ let before : size_below n F ≡ size_below n E = as_many n (omega arith) in let few : count_of (F n) ≤ 1 = at_most_one (F n) in omega arith
         | inr ne ↦ let before : size_below n F ≤ size_below n E + 1 = one_more n in let here : count_of (F n) ≡ count_of (E n) = ap count_of (same n ne) in omega arith
       ] in

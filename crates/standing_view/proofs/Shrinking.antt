@@ -1,7 +1,7 @@
 -- What stands, with one component or one measurement less.
 use Rattle.std.proofs.Common.{◌≡◌, ◌≢◌, ℕ, zero, suc, not, ◌+◌, ◌-◌, ◌<◌, ◌≤◌, ◌⊎◌, inl, inr, IsTrue, List, [], ◌∷◌, ◌++◌, length, map, take, drop, Option, Some, IsSome, refl, sym, ap, ap₂, subst, ◌∙◌, append-nil, add-one, arith}
 use Rattle.std.specs.List.{remove, slice_get}
-use Rattle.std.proofs.lemmas.Bool.{and_from, and_parts, both_ways, not-true, not_from_false, false_from_ne_true}
+use Rattle.std.proofs.lemmas.Bool.{and_from, and_parts, both_ways, not-true, not_from_false, false_from_ne_true, eqb-true, eq-eqb}
 use Rattle.std.proofs.lemmas.List.{take-map, length-map, length-take-le, take-append-drop, take_at, drop_at, drop_all, take_more}
 use Rattle.std.proofs.lemmas.Option.{slice_get_within, get_or_from_slice_get}
 use Rattle.std.proofs.lemmas.List.Edits.{length-remove, remove-append_left, remove-append_right}
@@ -13,11 +13,12 @@ use Rattle.circuit_model.specs.declared.present.Component.{Component}
 use Rattle.circuit_model.specs.Present.{PresentView, is_cell_before, without_last_part}
 use Rattle.circuit_model.specs.Stock.{Stock}
 use Rattle.circuit_model.proofs.Settled.{same_set}
+use Rattle.circuit_model.proofs.Presents.{IsIn-front_remove, slice_get-append_left}
 use Rattle.environment_sets.specs.declared.environment.TheConstants.{SLOTS}
 use Rattle.environment_sets.specs.Lists.{IsIn, AreDistinct}
 use Rattle.environment_sets.specs.Orders.{IsOrder}
 use Rattle.environment_sets.specs.Sets.{only, ◌∖◌}
-use Rattle.environment_sets.proofs.Membership.{IsIn-left, IsIn-right, IsIn-slice_get, map_alike}
+use Rattle.environment_sets.proofs.Membership.{IsIn-left, IsIn-right, IsIn-slice_get, map_alike, one_place}
 use Rattle.environment_sets.proofs.Listings.{IsIn-front, IsIn-push}
 use Rattle.label_engine.specs.Engine.{Forgets}
 use Rattle.standing_view.specs.Standing.{Stands, IsStanding, order_of, parts_of, readings_of, is_among, without_last_part_at, without_reading_at}
@@ -25,9 +26,9 @@ use Rattle.standing_view.specs.View.{StandsFor, IsParked, IsReadingOf}
 use Rattle.standing_view.specs.Laws.{TheLastComponentIsForgotten}
 use Rattle.standing_view.proofs.Growing.{some_is_not_none}
 use Rattle.standing_view.proofs.Kept.{stands}
-use Rattle.standing_view.proofs.Parked.{none_is_not_some}
-use Rattle.standing_view.proofs.Places.{same_number, itself, among_listed, listed_among}
-use Rattle.standing_view.proofs.Removed.{rising_removed, order_removed, in_removed, this_or_removed, not_in_removed}
+use Rattle.standing_view.proofs.Parked.{none_is_not_some, remembered_before}
+use Rattle.standing_view.proofs.Places.{among_listed, listed_among}
+use Rattle.standing_view.proofs.Removed.{rising_removed, order_removed, this_or_removed, not_in_removed}
 
 module _ {X : Type 0} where
   -- the last element taken away
@@ -36,11 +37,6 @@ module _ {X : Type 0} where
 
   take_more_at : (xs : List X) (n : ℕ) (z : X) → slice_get xs n ≡ Some z → take (n + 1) xs ≡ take n xs ++ z ∷ []
   take_more_at xs n z at = let low : n < length xs = slice_get_within xs n z at in take_more xs n z low ∙ ap (λ (x : X). take n xs ++ x ∷ []) (get_or_from_slice_get xs n z z at)
-
-  stands_in_both : (xs ys : List X) (i : ℕ) (z : X) → slice_get xs i ≡ Some z → slice_get (xs ++ ys) i ≡ Some z
-  stands_in_both [] ys i z at = absurd (cc)
-  stands_in_both (x ∷ xs) ys zero z at = at
-  stands_in_both (x ∷ xs) ys (suc i) z at = stands_in_both xs ys i z at
 
 -- without the last of the first list
 module _ (xs ys : List ℕ) (n slot : ℕ) (long : length xs ≡ n + 1) where
@@ -52,7 +48,7 @@ module _ (xs ys : List ℕ) (n slot : ℕ) (long : length xs ≡ n + 1) where
     order_shorter b o = subst (λ (zs : List ℕ). IsOrder b zs) (sym shorter) (order_removed b [] (xs ++ ys) n o)
 
     pub in_longer : (k : ℕ) → IsIn (take n xs ++ ys) k → IsIn (xs ++ ys) k
-    in_longer k h = in_removed [] (xs ++ ys) n k (subst (λ (zs : List ℕ). IsIn zs k) shorter h)
+    in_longer k h = IsIn-front_remove [] (xs ++ ys) n k (subst (λ (zs : List ℕ). IsIn zs k) shorter h)
 
     pub this_or_shorter : (k : ℕ) → IsIn (xs ++ ys) k → (slot ≡ k) ⊎ IsIn (take n xs ++ ys) k
     this_or_shorter k h = elim (this_or_removed [] (xs ++ ys) n slot k at h) [ inl e ↦ inl e | inr l ↦ inr (subst (λ (zs : List ℕ). IsIn zs k) (sym shorter) l) ]
@@ -68,7 +64,7 @@ among_less xs ys z out kept from = same_set (is_among xs ∖ only z) (is_among y
     to k h =
         let parts : IsTrue (is_among xs k) × IsTrue (not (only z k)) = and_parts (is_among xs k) (not (only z k)) h in
         elim (from k (among_listed xs k parts.0)) [
-          | inl e ↦ absurd (both_ways (only z k) (not-true (only z k) parts.1) (let P : ℕ → Type 0 = λ j. IsTrue (only z j) in subst P e (itself z)))
+          | inl e ↦ absurd (both_ways (only z k) (not-true (only z k) parts.1) (let P : ℕ → Type 0 = λ j. IsTrue (only z j) in subst P e (eq-eqb z z refl)))
           | inr l ↦ listed_among ys k l
         ]
 
@@ -76,7 +72,7 @@ among_less xs ys z out kept from = same_set (is_among xs ∖ only z) (is_among y
     back k h =
         let l : IsIn ys k = among_listed ys k h in
         and_from (is_among xs k) (not (only z k)) (listed_among xs k (kept k l))
-        (not_from_false (only z k) (false_from_ne_true (only z k) (λ is. out (let P : ℕ → Type 0 = λ j. IsIn ys j in subst P (same_number k z is) l))))
+        (not_from_false (only z k) (false_from_ne_true (only z k) (λ is. out (let P : ℕ → Type 0 = λ j. IsIn ys j in subst P (eqb-true k z is) l))))
 
 -- the second of two lists is distinct where both are
 right_distinct : (xs ys : List ℕ) → AreDistinct (xs ++ ys) → AreDistinct ys
@@ -167,7 +163,7 @@ module _ (order after : List ℕ) (cells later : List Cell) (n place slot : ℕ)
   reading_out h =
       among_less (drop n order) (remove (drop n order) place) slot
       (not_in_removed [] (drop n order) place slot (right_distinct (take n order) (drop n order) h.order.distinct) at)
-      (λ k l. in_removed [] (drop n order) place k l) (λ k l. this_or_removed [] (drop n order) place slot k at l)
+      (λ k l. IsIn-front_remove [] (drop n order) place k l) (λ k l. this_or_removed [] (drop n order) place slot k at l)
 
   pub reading_stands_no_more : IsStanding Standing → IsStanding (without_reading_at place Standing)
   reading_stands_no_more h =
@@ -181,14 +177,6 @@ module _ (order after : List ℕ) (cells later : List Cell) (n place slot : ℕ)
         parts = h.parts;
         readings = omega (arith, h.readings);
       }
-
--- a number stands at one place
-one_place : (xs : List ℕ) (i j z : ℕ) → AreDistinct xs → slice_get xs i ≡ Some z → slice_get xs j ≡ Some z → i ≡ j
-one_place [] i j z d a b = absurd (cc)
-one_place (x ∷ xs) zero zero z d a b = refl
-one_place (x ∷ xs) zero (suc j) z d a b = let same : x ≡ z = cc in absurd (d.0 z (IsIn-slice_get xs j z b) same)
-one_place (x ∷ xs) (suc i) zero z d a b = let same : x ≡ z = cc in absurd (d.0 z (IsIn-slice_get xs i z a) same)
-one_place (x ∷ xs) (suc i) (suc j) z d a b = ap (λ (k : ℕ). suc k) (one_place xs i j z d.1 a b)
 
 pub one_reading_place : (st : Stands) → IsStanding st → (i j slot : ℕ) → slice_get st.slots i ≡ Some slot → slice_get st.slots j ≡ Some slot → i ≡ j
 one_reading_place st h i j slot a b = one_place st.slots i j slot (right_distinct st.parts st.slots h.order.distinct) a b
@@ -204,18 +192,13 @@ module _ (S R : Stock ℕ) (st : Stands) (P : PresentView) (parked : List Fact) 
   same_n = let same : length st.parts ≡ length P.parts = sym (length-map st.parts S) ∙ (ap (λ (xs : List (Option Assumption)). length xs) r.components ∙ length-map P.parts (λ (c : Component). Some (Part c.part))) in omega arith
 
   there : slice_get (order_of st) n ≡ Some slot
-  there = stands_in_both st.parts st.slots n slot at
+  there = slice_get-append_left st.parts st.slots n slot at
 
   abbrev Less : Stands
   Less = without_last_part_at st
 
   as_before : (k : ℕ) → IsIn (order_of Less) k → R k ≡ S k
   as_before k h = m.others k (λ e. not_in_shorter st.parts st.slots n slot long there r.order.distinct (subst (λ (j : ℕ). IsIn (order_of Less) j) e h))
-
-  before : (k : ℕ) (a : Assumption) → R k ≡ Some a → (k ≢ slot) × (S k ≡ Some a)
-  before k a is =
-      let ne : k ≢ slot = λ e. some_is_not_none a (sym is ∙ (ap R e ∙ m.free)) in
-      (ne, sym (m.others k ne) ∙ is)
 
   stands_there : IsIn (order_of st) slot
   stands_there = IsIn-slice_get (order_of st) n slot there
@@ -246,7 +229,7 @@ module _ (S R : Stock ℕ) (st : Stands) (P : PresentView) (parked : List Fact) 
         order = order_shorter st.parts st.slots n slot long there SLOTS r.order;
         rising = r.rising;
         each_parked = each_parked;
-        once = λ k l g a b. r.once k l g (before k (Reading g) a).1 (before l (Reading g) b).1;
+        once = λ k l g a b. r.once k l g (remembered_before S R slot what m k (Reading g) a).1 (remembered_before S R slot what m l (Reading g) b).1;
         all = all;
       }
 

@@ -1,7 +1,6 @@
 // The slots of what stands.
 
 ghost use Rattle.std.specs.Prelude.{◌≡◌, ◌<◌, ◌≤◌, ℕ, Some, IfOk, length, slice_get};
-ghost use Rattle.circuit_model.specs.Present.{is_cell_before};
 ghost use Rattle.circuit_model.specs.declared.limits.TheConstants.{MOST_PARTS, MOST_READINGS};
 ghost use Rattle.environment_sets.specs.declared.environment.TheConstants.{SLOTS};
 ghost use Rattle.environment_sets.specs.Members.{members};
@@ -150,7 +149,7 @@ impl Standing {
         requires room { length self.old.cells < MOST_READINGS }
         ensures { self.new ≡ with_reading_at slot cell self.old }
     {
-        let place = place_of(&self.cells, cell);
+        let place = place_for(&self.cells, cell);
         match self.cells.insert(place, cell) {
             Ok(()) => (),
             Err(_) => unreachable!(),
@@ -198,20 +197,14 @@ fn place_of_slot(slots: &[u16], slot: u16) -> usize
 }
 
 // The place of a further cell in the order of cells.
-fn place_of(cells: &[Cell], cell: Cell) -> usize
+fn place_for(cells: &[Cell], cell: Cell) -> usize
     ensures within { result ≤ length cells.now }
     ensures place { result ≡ place_among cell cells.now }
 {
     for (place, other) in cells.iter().enumerate() {
-        if comes_before(cell, *other) {
+        if cell.comes_before(*other) {
             return place;
         }
     }
     cells.len()
-}
-
-fn comes_before(one: Cell, other: Cell) -> bool
-    ensures { result ≡ is_cell_before one other }
-{
-    one < other
 }

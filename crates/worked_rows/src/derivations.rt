@@ -205,6 +205,16 @@ struct Asked<'a> {
     goal: Goal,
 }
 
+// It is asked for a clash.
+fn to_a_clash<'a>(present: &'a Present, all: &'a Chosen, ending: Ending) -> Asked<'a> {
+    Asked {
+        present,
+        all,
+        ending,
+        goal: Goal::Clash,
+    }
+}
+
 // What it says of the steps with this changed.
 fn says(
     alloc: Global,
@@ -295,12 +305,7 @@ fn two_words_with_one_thing_changed(
     all: &Chosen,
 ) -> Result<(), Fail> {
     let steps = steps_to_two_words(alloc)?;
-    let asked = Asked {
-        present,
-        all,
-        ending: two_words(),
-        goal: Goal::Clash,
-    };
+    let asked = to_a_clash(present, all, two_words());
     assert!(rt; says(alloc, &steps, Changed::Nothing, &asked)?);
     each_is_left_out(rt, alloc, &steps, &asked)?;
     each_two_are_exchanged(rt, alloc, &steps, &asked)?;
@@ -321,12 +326,7 @@ fn a_refutation_with_steps_exchanged(
     all: &Chosen,
 ) -> Result<(), Fail> {
     let steps = steps_to_a_refutation(alloc)?;
-    let asked = Asked {
-        present,
-        all,
-        ending: refutation(),
-        goal: Goal::Clash,
-    };
+    let asked = to_a_clash(present, all, refutation());
     for place in 1..6 {
         let changed = Changed::Exchanged(place - 1, place);
         assert!(rt;

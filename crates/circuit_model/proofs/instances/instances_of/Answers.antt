@@ -1,4 +1,4 @@
-use Rattle.std.proofs.Common.{◌≡◌, length, List, rules, sym, subst}
+use Rattle.std.proofs.Common.{List, sym, subst}
 use Rattle.circuit_model.specs.declared.model.Instance.{Instance}
 use Rattle.circuit_model.specs.Lawful.{AreLawful}
 use Rattle.circuit_model.proofs.Cycles.{AreLawful-instances}
@@ -6,5 +6,4 @@ use Rattle.circuit_model.proofs.instances.instances_of.Goals as goal
 
 pub of-requires : goal.of-requires
 of-requires c =
-    let three : length c.args.widths ≡ 3 = search rules in
-    subst (λ (is : List Instance). AreLawful is) (sym c.in_ok-instances.ensures) (AreLawful-instances c.args.kind c.args.nets c.args.widths c.args.cycles three c.requires.widths c.requires.value)
+    subst (λ (is : List Instance). AreLawful is) (sym c.in_ok-instances.ensures) (AreLawful-instances c.args.kind c.args.nets c.args.widths c.args.cycles c.requires.widths c.requires.value)

@@ -17,54 +17,64 @@ of_ports_at prim kind known e h = let C : Primitive → Type 0 = λ p. IsOfPorts
 buf : goal.returns-in-Buf-clause-exact
 buf c =
     let three : length c.args.known ≡ 3 = search rules in
-    rw c.in-Buf.is (of_two_ports Buf c.args.widths c.args.known three _ _ _ (lawful_at _ Buf c.args.widths c.in-Buf.is c.requires.widths) refl (of_ports_at _ Buf c.args.known c.in-Buf.is c.requires.ports) c.infer_buf.ensures)
+    let three_widths : length c.args.widths ≡ 3 = search rules in
+    rw c.in-Buf.is (of_two_ports Buf c.args.widths c.args.known three_widths three _ _ _ (lawful_at _ Buf c.args.widths c.in-Buf.is c.requires.widths) refl (of_ports_at _ Buf c.args.known c.in-Buf.is c.requires.ports) c.infer_buf.ensures)
 
 not : goal.returns-in-Not-clause-exact
 not c =
     let three : length c.args.known ≡ 3 = search rules in
-    rw c.in-Not.is (of_two_ports Not c.args.widths c.args.known three _ _ _ (lawful_at _ Not c.args.widths c.in-Not.is c.requires.widths) refl (of_ports_at _ Not c.args.known c.in-Not.is c.requires.ports) c.infer_not.ensures)
+    let three_widths : length c.args.widths ≡ 3 = search rules in
+    rw c.in-Not.is (of_two_ports Not c.args.widths c.args.known three_widths three _ _ _ (lawful_at _ Not c.args.widths c.in-Not.is c.requires.widths) refl (of_ports_at _ Not c.args.known c.in-Not.is c.requires.ports) c.infer_not.ensures)
 
 and : goal.returns-in-And-clause-exact
 and c =
     let three : length c.args.known ≡ 3 = search rules in
-    rw c.in-And.is (of_three_ports And c.args.widths c.args.known three _ _ _ (lawful_at _ And c.args.widths c.in-And.is c.requires.widths) c.infer_and.ensures.exact)
+    let three_widths : length c.args.widths ≡ 3 = search rules in
+    rw c.in-And.is (of_three_ports And c.args.widths c.args.known three_widths three _ _ _ (lawful_at _ And c.args.widths c.in-And.is c.requires.widths) c.infer_and.ensures.exact)
 
 or : goal.returns-in-Or-clause-exact
 or c =
     let three : length c.args.known ≡ 3 = search rules in
-    rw c.in-Or.is (of_three_ports Or c.args.widths c.args.known three _ _ _ (lawful_at _ Or c.args.widths c.in-Or.is c.requires.widths) c.infer_or.ensures)
+    let three_widths : length c.args.widths ≡ 3 = search rules in
+    rw c.in-Or.is (of_three_ports Or c.args.widths c.args.known three_widths three _ _ _ (lawful_at _ Or c.args.widths c.in-Or.is c.requires.widths) c.infer_or.ensures)
 
 xor : goal.returns-in-Xor-clause-exact
 xor c =
     let three : length c.args.known ≡ 3 = search rules in
-    rw c.in-Xor.is (of_three_ports Xor c.args.widths c.args.known three _ _ _ (lawful_at _ Xor c.args.widths c.in-Xor.is c.requires.widths) c.infer_xor.ensures.exact)
+    let three_widths : length c.args.widths ≡ 3 = search rules in
+    rw c.in-Xor.is (of_three_ports Xor c.args.widths c.args.known three_widths three _ _ _ (lawful_at _ Xor c.args.widths c.in-Xor.is c.requires.widths) c.infer_xor.ensures.exact)
 
 nand : goal.returns-in-Nand-clause-exact
 nand c =
     let three : length c.args.known ≡ 3 = search rules in
-    rw c.in-Nand.is (of_three_ports Nand c.args.widths c.args.known three _ _ _ (lawful_at _ Nand c.args.widths c.in-Nand.is c.requires.widths) c.infer_nand.ensures)
+    let three_widths : length c.args.widths ≡ 3 = search rules in
+    rw c.in-Nand.is (of_three_ports Nand c.args.widths c.args.known three_widths three _ _ _ (lawful_at _ Nand c.args.widths c.in-Nand.is c.requires.widths) c.infer_nand.ensures)
 
 nor : goal.returns-in-Nor-clause-exact
 nor c =
     let three : length c.args.known ≡ 3 = search rules in
-    rw c.in-Nor.is (of_three_ports Nor c.args.widths c.args.known three _ _ _ (lawful_at _ Nor c.args.widths c.in-Nor.is c.requires.widths) c.infer_nor.ensures)
+    let three_widths : length c.args.widths ≡ 3 = search rules in
+    rw c.in-Nor.is (of_three_ports Nor c.args.widths c.args.known three_widths three _ _ _ (lawful_at _ Nor c.args.widths c.in-Nor.is c.requires.widths) c.infer_nor.ensures)
 
 xnor : goal.returns-in-Xnor-clause-exact
 xnor c =
     let three : length c.args.known ≡ 3 = search rules in
-    rw c.in-Xnor.is (of_three_ports Xnor c.args.widths c.args.known three _ _ _ (lawful_at _ Xnor c.args.widths c.in-Xnor.is c.requires.widths) c.infer_xnor.ensures)
+    let three_widths : length c.args.widths ≡ 3 = search rules in
+    rw c.in-Xnor.is (of_three_ports Xnor c.args.widths c.args.known three_widths three _ _ _ (lawful_at _ Xnor c.args.widths c.in-Xnor.is c.requires.widths) c.infer_xnor.ensures)
 
 sum : goal.returns-in-Add-clause-exact
 sum c =
     let three : length c.args.known ≡ 3 = search rules in
-    rw c.in-Add.is (of_three_ports Add c.args.widths c.args.known three _ _ _ (lawful_at _ Add c.args.widths c.in-Add.is c.requires.widths) c.infer_sum.ensures)
+    let three_widths : length c.args.widths ≡ 3 = search rules in
+    rw c.in-Add.is (of_three_ports Add c.args.widths c.args.known three_widths three _ _ _ (lawful_at _ Add c.args.widths c.in-Add.is c.requires.widths) c.infer_sum.ensures)
 
 constant : goal.returns-in-Const-clause-exact
 constant c =
     let three : length c.args.known ≡ 3 = search rules in
+    let three_widths : length c.args.widths ≡ 3 = search rules in
     let value = c.in-Const.value in
     let C : Primitive → Type 0 = λ p. HasOpenPort p c.args.known in
-    rw c.in-Const.is (of_constant value c.args.widths (lawful_at _ (Const value) c.args.widths c.in-Const.is c.requires.widths) c.args.known three (of_ports_at _ (Const value) c.args.known c.in-Const.is c.requires.ports) (subst C c.in-Const.is c.requires.open_port) _ _ c.infer_const.ensures.refuted c.infer_const.ensures.forced)
+    rw c.in-Const.is (of_constant value c.args.widths three_widths (lawful_at _ (Const value) c.args.widths c.in-Const.is c.requires.widths) c.args.known three (of_ports_at _ (Const value) c.args.known c.in-Const.is c.requires.ports) (subst C c.in-Const.is c.requires.open_port) _ _ c.infer_const.ensures.refuted c.infer_const.ensures.forced)
 
 pub returns-in-Buf-clause-exact : goal.returns-in-Buf-clause-exact
 returns-in-Buf-clause-exact c = buf c
@@ -129,7 +139,8 @@ returns-in-Const-clause-fit c = forced_words_fit _ _ _ _ _ (constant c)
 product : goal.returns-in-Mul-clause-exact
 product c =
     let three : length c.args.known ≡ 3 = search rules in
-    rw c.in-Mul.is (of_multiplier c.args.widths _ _ (lawful_at _ Mul c.args.widths c.in-Mul.is c.requires.widths) c.args.known three _ _ c.infer_product.ensures)
+    let three_widths : length c.args.widths ≡ 3 = search rules in
+    rw c.in-Mul.is (of_multiplier c.args.widths _ _ three_widths (lawful_at _ Mul c.args.widths c.in-Mul.is c.requires.widths) c.args.known three _ _ c.infer_product.ensures)
 
 pub returns-in-Mul-clause-exact : goal.returns-in-Mul-clause-exact
 returns-in-Mul-clause-exact c = product c

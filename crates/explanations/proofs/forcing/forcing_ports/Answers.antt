@@ -1,5 +1,5 @@
 use Rattle.std.proofs.Common.{ℕ, List, Option, MatchOption, sym, subst}
-use Rattle.component_models.specs.Asking.{WordsFit}
+use Rattle.circuit_model.specs.Inference.{WordsFit}
 use Rattle.explanations.specs.Forcing.{IsLeast, IsForcing}
 use Rattle.explanations.proofs.forcing.forcing_ports.Goals as goal
 

@@ -1,5 +1,5 @@
 use Rattle.std.proofs.Common.{List, Option, ℕ, sym, subst, ◌∙◌}
-use Rattle.component_models.specs.Asking.{WordsFit}
+use Rattle.circuit_model.specs.Inference.{WordsFit}
 use Rattle.explanations.proofs.Choices.{chosen_words-fit}
 use Rattle.explanations.proofs.Forced.{said_exactly}
 use Rattle.explanations.proofs.forcing.is_forcing.Goals as goal

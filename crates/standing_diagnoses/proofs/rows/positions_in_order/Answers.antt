@@ -1,5 +1,5 @@
 use Rattle.std.proofs.Common.{◌≡◌, ◌+◌, ℕ, List, [], ◌∷◌, ◌++◌, sym, ap, ◌∙◌}
-use Rattle.standing_diagnoses.proofs.Gathered.{range_more}
+use Rattle.environment_sets.proofs.Ranges.{range_more}
 use Rattle.standing_diagnoses.proofs.rows.positions_in_order.Goals as goal
 
 pub loop-place-preserved : goal.loop-place-preserved

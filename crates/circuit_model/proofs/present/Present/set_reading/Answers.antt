@@ -11,7 +11,7 @@ invariant_of-self c =
     let s = view_of c.self.inside in
     let fact = c.args.fact in
     let lawful = subst (λ (t : PresentView). IsLawful t → IsLawful (with_standing fact t)) (sym c.self.view_is) (λ h. IsLawful-with_standing fact c.args.self.now h c.requires.fact c.requires.free c.requires.room) c.self.invariant.lawful in
-    let items = c.in-Ok.ensures.items ∙ subst (λ (readings : List Fact). insert readings c.place_of-place.result fact ≡ with_reading fact readings) c.deref.ensures.value c.place_of-place.ensures.place in
+    let items = c.in-Ok.ensures.items ∙ subst (λ (readings : List Fact). insert readings c.place_for-place.result fact ≡ with_reading fact readings) c.deref.ensures.value c.place_for-place.ensures.place in
     record {
       lawful = subst (λ (readings : List Fact). IsLawful (record s { readings = readings })) (sym items) lawful;
       part_names = c.self.invariant.part_names;

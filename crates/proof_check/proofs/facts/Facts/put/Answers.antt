@@ -12,36 +12,36 @@ returns-then-stands_at-clause-ok c = λ g. (
   λ h. inr h,
   λ h.
       let same : c.deref-2.result.now ≡ c.args.self.now = cc in
-      let here : IsIn c.args.self.now c.args.fact = subst (λ (xs : List Fact). IsIn xs c.args.fact) same (IsIn-slice_get c.deref-2.result.now c.place_of-place.result c.args.fact (c.stands_at.ensures.0 c.if-stands_at.true)) in
+      let here : IsIn c.args.self.now c.args.fact = subst (λ (xs : List Fact). IsIn xs c.args.fact) same (IsIn-slice_get c.deref-2.result.now c.place_for-place.result c.args.fact (c.stands_at.ensures.0 c.if-stands_at.true)) in
       elim h [ inl e ↦ subst (λ (f : Fact). IsIn c.args.self.now f) e here | inr k ↦ k ],
 )
 
 pub returns-clause-ok : goal.returns-clause-ok
 returns-clause-ok c =
-    let items : c.insert.new.self.items ≡ insert c.self.inside.list.items c.place_of-place.result c.args.fact = c.in_ok-insert.ensures.items in
+    let items : c.insert.new.self.items ≡ insert c.self.inside.list.items c.place_for-place.result c.args.fact = c.in_ok-insert.ensures.items in
     let same : c.self.inside.list.items ≡ c.args.self.now = cc in
     let Q : List Fact → Type 0 = λ old. HasPut c.args.fact old c.insert.new.self.items in
     let R : List Fact → Type 0 = λ new. HasPut c.args.fact c.self.inside.list.items new in
-    subst Q same (subst R (sym items) (HasPut-insert c.args.fact c.self.inside.list.items c.place_of-place.result))
+    subst Q same (subst R (sym items) (HasPut-insert c.args.fact c.self.inside.list.items c.place_for-place.result))
 
 pub invariant_of-self-2 : goal.invariant_of-self-2
 invariant_of-self-2 c =
-    let items : c.insert.new.self.items ≡ insert c.self.inside.list.items c.place_of-place.result c.args.fact = c.in_ok-insert.ensures.items in
-    let place : IsPlaceOf c.self.inside.list.items c.args.fact c.place_of-place.result = subst (λ (xs : List Fact). IsPlaceOf xs c.args.fact c.place_of-place.result) c.deref.ensures.value c.place_of-place.ensures in
+    let items : c.insert.new.self.items ≡ insert c.self.inside.list.items c.place_for-place.result c.args.fact = c.in_ok-insert.ensures.items in
+    let place : IsPlaceOf c.self.inside.list.items c.args.fact c.place_for-place.result = subst (λ (xs : List Fact). IsPlaceOf xs c.args.fact c.place_for-place.result) c.deref.ensures.value c.place_for-place.ensures in
     let R : List Fact → Type 0 = λ new. AreInOrder new in
-    subst R (sym items) (AreInOrder-insert c.self.inside.list.items c.args.fact c.place_of-place.result c.self.invariant place.within place.before place.after (λ e.
-    true≢false (sym (c.stands_at.ensures.1 (subst (λ (xs : List Fact). slice_get xs c.place_of-place.result ≡ Some c.args.fact) (sym c.deref-2.ensures.value) e)) ∙ c.if-stands_at.false)))
+    subst R (sym items) (AreInOrder-insert c.self.inside.list.items c.args.fact c.place_for-place.result c.self.invariant place.within place.before place.after (λ e.
+    true≢false (sym (c.stands_at.ensures.1 (subst (λ (xs : List Fact). slice_get xs c.place_for-place.result ≡ Some c.args.fact) (sym c.deref-2.ensures.value) e)) ∙ c.if-stands_at.false)))
 
 pub returns-then-stands_at-clause-long : goal.returns-then-stands_at-clause-long
 returns-then-stands_at-clause-long c = λ out.
     let same : c.deref-2.result.now ≡ c.args.self.now = cc in
-    let here : IsIn c.args.self.now c.args.fact = subst (λ (xs : List Fact). IsIn xs c.args.fact) same (IsIn-slice_get c.deref-2.result.now c.place_of-place.result c.args.fact (c.stands_at.ensures.0 c.if-stands_at.true)) in
+    let here : IsIn c.args.self.now c.args.fact = subst (λ (xs : List Fact). IsIn xs c.args.fact) same (IsIn-slice_get c.deref-2.result.now c.place_for-place.result c.args.fact (c.stands_at.ensures.0 c.if-stands_at.true)) in
     absurd (out here)
 
 pub returns-clause-order : goal.returns-clause-order
 returns-clause-order c =
-    let items : c.insert.new.self.items ≡ insert c.self.inside.list.items c.place_of-place.result c.args.fact = c.in_ok-insert.ensures.items in
-    let place : IsPlaceOf c.self.inside.list.items c.args.fact c.place_of-place.result = subst (λ (xs : List Fact). IsPlaceOf xs c.args.fact c.place_of-place.result) c.deref.ensures.value c.place_of-place.ensures in
+    let items : c.insert.new.self.items ≡ insert c.self.inside.list.items c.place_for-place.result c.args.fact = c.in_ok-insert.ensures.items in
+    let place : IsPlaceOf c.self.inside.list.items c.args.fact c.place_for-place.result = subst (λ (xs : List Fact). IsPlaceOf xs c.args.fact c.place_for-place.result) c.deref.ensures.value c.place_for-place.ensures in
     let R : List Fact → Type 0 = λ new. AreInOrder new in
-    subst R (sym items) (AreInOrder-insert c.self.inside.list.items c.args.fact c.place_of-place.result c.self.invariant place.within place.before place.after (λ e.
-    true≢false (sym (c.stands_at.ensures.1 (subst (λ (xs : List Fact). slice_get xs c.place_of-place.result ≡ Some c.args.fact) (sym c.deref-2.ensures.value) e)) ∙ c.if-stands_at.false)))
+    subst R (sym items) (AreInOrder-insert c.self.inside.list.items c.args.fact c.place_for-place.result c.self.invariant place.within place.before place.after (λ e.
+    true≢false (sym (c.stands_at.ensures.1 (subst (λ (xs : List Fact). slice_get xs c.place_for-place.result ≡ Some c.args.fact) (sym c.deref-2.ensures.value) e)) ∙ c.if-stands_at.false)))

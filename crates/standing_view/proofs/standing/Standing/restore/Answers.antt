@@ -20,7 +20,7 @@ invariant_of-self c =
     let parts : ℕ = c.self.inside.parts in
     let slot : ℕ = c.args.slot in
     let cell : Cell = c.args.cell in
-    let place : c.place_of-place.result ≡ place_among cell cells = c.place_of-place.ensures.place ∙ ap (λ (ds : List Cell). place_among cell ds) c.deref.ensures.value in
+    let place : c.place_for-place.result ≡ place_among cell cells = c.place_for-place.ensures.place ∙ ap (λ (ds : List Cell). place_among cell ds) c.deref.ensures.value in
     let slots_put : c.insert-2.new.self.items ≡ insert order (parts + place_among cell cells) slot = c.in-Ok-insert.ensures.items ∙ ap (λ (i : ℕ). insert order (parts + i) slot) place in
     let cells_put : c.insert.new.self.items ≡ insert cells (place_among cell cells) cell = c.in-Ok.ensures.items ∙ ap (λ (i : ℕ). insert cells i cell) place in
     let free = subst (λ (st : Stands). IsIn (order_of st) slot → ⊥) (sym c.self.view_is) c.requires.free in
@@ -47,7 +47,7 @@ returns c =
     let parts : ℕ = c.self.inside.parts in
     let slot : ℕ = c.args.slot in
     let cell : Cell = c.args.cell in
-    let place : c.place_of-place.result ≡ place_among cell cells = c.place_of-place.ensures.place ∙ ap (λ (ds : List Cell). place_among cell ds) c.deref.ensures.value in
+    let place : c.place_for-place.result ≡ place_among cell cells = c.place_for-place.ensures.place ∙ ap (λ (ds : List Cell). place_among cell ds) c.deref.ensures.value in
     let slots_put : c.insert-2.new.self.items ≡ insert order (parts + place_among cell cells) slot = c.in-Ok-insert.ensures.items ∙ ap (λ (i : ℕ). insert order (parts + i) slot) place in
     let cells_put : c.insert.new.self.items ≡ insert cells (place_among cell cells) cell = c.in-Ok.ensures.items ∙ ap (λ (i : ℕ). insert cells i cell) place in
     reading_put order c.insert-2.new.self.items cells parts c.self.invariant.count slot c.insert.new.self.items cell slots_put cells_put

@@ -1,7 +1,7 @@
 use Rattle.std.proofs.Common.{ℕ, ◌+◌, ◌-◌, ◌/◌, ◌<◌, get_or, length, sym, ◌∙◌, arith}
 use Rattle.std.proofs.lemmas.Option.{slice_get-get_or}
 use Rattle.proof_check.proofs.Ordered.{AreBefore-at, AreFrom-at, no_fact}
-use Rattle.proof_check.proofs.facts.place_of.Goals as goal
+use Rattle.proof_check.proofs.facts.place_for.Goals as goal
 
 pub loop-low-preserved-then-comes_before : goal.loop-low-preserved-then-comes_before
 loop-low-preserved-then-comes_before c =

@@ -1,6 +1,6 @@
 use Rattle.std.proofs.Common.{◌≤◌, ◌-◌, length}
 use Rattle.proof_check.specs.Ordered.{AreBefore, AreFrom}
-use Rattle.proof_check.proofs.facts.place_of.Given as goal
+use Rattle.proof_check.proofs.facts.place_for.Given as goal
 
 abbrev pub invariant-loop-low : goal.invariant-loop-low
 invariant-loop-low l = record {
