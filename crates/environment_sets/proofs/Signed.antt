@@ -1,5 +1,5 @@
 -- Signatures of sets.
-use Rattle.std.proofs.Common.{◌≡◌, ℕ, zero, suc, ◌+◌, ◌*◌, ◌/◌, ◌^◌, ◌<◌, inl, inr, ◌⊎◌, max, Bool, true, false, ◌&&◌, ◌||◌, IsTrue, refl, sym, ap, subst, ◌∙◌, List, [], ◌∷◌, get_or, bit_and, bit_or, arith}
+use Rattle.std.proofs.Common.{◌≡◌, ℕ, zero, suc, ◌+◌, ◌*◌, ◌/◌, ◌^◌, ◌<◌, inl, inr, ◌⊎◌, max, Bool, true, false, ◌||◌, IsTrue, refl, sym, ap, subst, ◌∙◌, List, [], ◌∷◌, get_or, bit_and, bit_or, arith}
 use Rattle.std.specs.Int.{bit_at}
 use Rattle.std.proofs.lemmas.Bool.{false≢true}
 use Rattle.std.proofs.lemmas.Nat.{mod-mul-add, and_le_l, or_lt, pow_pos}

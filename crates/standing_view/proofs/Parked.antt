@@ -12,6 +12,7 @@ use Rattle.environment_sets.specs.declared.environment.TheConstants.{SLOTS}
 use Rattle.environment_sets.specs.Lists.{IsIn}
 use Rattle.environment_sets.proofs.Membership.{IsIn-right, IsIn-slice_get}
 use Rattle.environment_sets.proofs.Listings.{IsIn-filter, IsIn-kept}
+use Rattle.label_engine.specs.Engine.{Forgets}
 use Rattle.standing_view.specs.Standing.{Stands, order_of, place_among, with_reading_at, without_reading_at}
 use Rattle.standing_view.specs.View.{StandsFor, IsParked, IsReadingOf, without_fact}
 use Rattle.standing_view.specs.Laws.{AReadingIsParked, AParkedReadingStands, AParkedReadingIsForgotten}
