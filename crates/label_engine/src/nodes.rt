@@ -1,12 +1,13 @@
 // What is kept: the facts that were met, each with its label, and the nogoods.
 
-ghost use Rattle.std.specs.Prelude.{◌≡◌, ◌<◌, ◌↔◌, ◌++◌, ◌∷◌, [], IsTrue, IfOk, OnOk, OnErr, MatchOption, Some, None, position, slice_get, take, filter};
+ghost use Rattle.std.specs.Prelude.{◌≡◌, ◌<◌, ◌↔◌, ◌++◌, ◌∷◌, [], IsTrue, IfOk, OnOk, OnErr, MatchOption, Some, None, length, position, slice_get, take, filter};
 ghost use Rattle.std.specs.List.{list_any};
 ghost use Rattle.environment_sets.specs.Sets.{◌⊆◌};
 ghost use Rattle.environment_sets.specs.Members.{members, HasMember};
 ghost use Rattle.environment_sets.specs.Families.{Drops, IsCovered};
 ghost use Rattle.propagation.specs.Propagating.{IsReached, IsPut};
 ghost use Rattle.label_engine.specs.declared.node.Node.{Node};
+ghost use Rattle.label_engine.specs.declared.nodes.TheConstants.{HINTS};
 ghost use Rattle.label_engine.specs.Nodes.{is_same, facts_of, AreOnce, label_in, KeptIn, IsMet, EachDrops, is_supported, AreSupported};
 
 use crate::node::{Insertion, Node, Nodes};
@@ -17,7 +18,7 @@ use label_algebra::Label;
 use std::alloc::{AllocError, Global};
 
 // How many hints there are: for each cell that there may be, one for even words and one for odd ones.
-const HINTS: usize = 2 * MOST_NETS as usize * MOST_CYCLES as usize;
+pub const HINTS: usize = 2 * MOST_NETS as usize * MOST_CYCLES as usize;
 
 /// Whether the two are the same fact.
 pub fn is_same_fact(a: &Fact, b: &Fact) -> bool
@@ -68,12 +69,12 @@ fn note_each(hints: &mut Vec<usize>, nodes: &[Node]) {
     }
 }
 
-/// A hint for each number.
-pub fn no_hints(alloc: Global) -> Result<Vec<usize>, AllocError> {
-    let mut hints = Vec::with_capacity(alloc, HINTS)?;
-    for _number in 0..HINTS {
-        hints.push(0)?;
-    }
+/// A hint for each number: the first place.
+pub fn no_hints(alloc: Global) -> Result<Vec<usize>, AllocError>
+    ensures { IfOk result (λ hints. length hints.items ≡ HINTS) }
+{
+    let mut hints = Vec::new(alloc);
+    hints.resize(HINTS, 0)?;
     Ok(hints)
 }
 
