@@ -32,19 +32,22 @@ pub struct Antichain {
     signed: SignedList,
     // No member has more slots. Nothing that has as many is contained in another member.
     largest: u16,
+    // No member has a slot outside. Where all of it is inside a mask, each member is.
+    reach: Env,
 }
 
 impl Model for Antichain {
     ghost use Rattle.std.specs.Prelude.{List};
     ghost use Rattle.environment_sets.specs.declared.environment.Env.{Env};
-    ghost use Rattle.antichains.specs.Largest.{ListsAntichain};
+    ghost use Rattle.environment_sets.specs.Members.{members, HasMember};
+    ghost use Rattle.antichains.specs.Largest.{AreWithin, ListsAntichain};
     ghost use Rattle.antichains.specs.Signed.{IsSigned};
 
     ghost Value = { List Env };
 
     ghost view = { λ a. a.signed.list.items };
 
-    ghost invariant = { λ a. ListsAntichain a.largest a.signed.list.items × IsSigned a.signed };
+    ghost invariant = { λ a. ListsAntichain a.largest a.signed.list.items × IsSigned a.signed × AreWithin (members a.reach) (HasMember a.signed.list.items) };
 }
 
 impl Antichain {
@@ -55,6 +58,7 @@ impl Antichain {
         Antichain {
             signed: SignedList::new(alloc),
             largest: 0,
+            reach: Env::empty(),
         }
     }
 
@@ -94,14 +98,18 @@ impl Antichain {
         self.signed.make_room()?;
         drop_supersets(&mut self.signed, &env, self.largest);
         self.largest = self.largest.max(env.size());
+        self.reach = self.reach.union(env);
         self.signed.push(env);
         Ok(())
     }
 
-    /// How many members are inside the mask.
+    /// How many members are inside the mask. They are looked at only where one of them may have a slot outside.
     pub fn count_inside(&self, mask: &Env) -> usize
         ensures { AreInside (HasMember self.now) (members mask.now) result }
     {
+        if self.reach.is_subset(mask) {
+            return self.signed.list.len();
+        }
         self.signed
             .list
             .iter()
@@ -170,6 +178,7 @@ impl Antichain {
         ensures antichain { IsAntichain (HasMember self.new) }
     {
         self.signed.drop_slot(slot);
+        self.reach = self.reach.without(slot);
     }
 
     /// Drops the members that contain the environment. It takes no memory.
