@@ -70,6 +70,9 @@ none_left_out e es n few at_most uncovered = sym (filter_keeps (λ m. leaves_out
     let size : size_below SLOTS (members m) ≤ n = at_most (members m) there in
     uncovered (members m, there, as_large (members e) (members m) within SLOTS (slots_are_below m) (omega (arith, size, few))))))
 
+pub none_over : (e : Env) (es : List Env) (U : Set ℕ) → AreWithin U (HasMember es) → (members e ⊆ U → ⊥) → es ≡ filter (λ m. leaves_out e (members m)) es
+none_over e es U inside out = sym (filter_keeps (λ m. leaves_out e (members m)) es (λ m i. holds_leaves_out e (members m) (λ within. out (λ k h. inside (members m) (map-IsIn members es m i) k (within k h)))))
+
 pub adds-left : (e : Env) (old left new : List Env) → IsLeft (leaves_out e) old left → new ≡ left ++ e ∷ [] → Adds (IsIn (sets old)) (IsIn (sets new)) (members e)
 adds-left e old left new is pushed =
     subst (λ (Es : List (Set ℕ)). Adds (IsIn (sets old)) (IsIn Es) (members e)) (sym (ap sets pushed ∙ sets-push left e)) (λ F. (

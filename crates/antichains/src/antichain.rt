@@ -7,7 +7,7 @@ ghost use Rattle.environment_sets.specs.Members.{members, sets, HasMember};
 ghost use Rattle.environment_sets.specs.Families.{IsCovered, IsAntichain, Adds, Drops, AreInside};
 ghost use Rattle.environment_sets.specs.Orders.{ListsAll, IsOrder};
 ghost use Rattle.environment_sets.specs.Walks.{ComesAfter, GivesNextEnv, envs_left};
-ghost use Rattle.antichains.specs.Largest.{AreAtMost};
+ghost use Rattle.antichains.specs.Largest.{AreAtMost, AreWithin};
 ghost use Rattle.antichains.specs.Signed.{HasSubsetAt, IsSigned, HasRoom};
 
 use crate::nearest::first_after;
@@ -96,7 +96,7 @@ impl Antichain {
         ensures antichain { IsAntichain (HasMember self.new) }
     {
         self.signed.make_room()?;
-        drop_supersets(&mut self.signed, &env, self.largest);
+        drop_supersets(&mut self.signed, &env, self.largest, &self.reach);
         self.largest = self.largest.max(env.size());
         self.reach = self.reach.union(env);
         self.signed.push(env);
@@ -203,16 +203,21 @@ impl Antichain {
     }
 }
 
-// Drops the environments that contain this one. Where none has more slots than this one, there are none.
-fn drop_supersets(signed: &mut SignedList, env: &Env, largest: u16)
+// Drops the environments that contain this one. Where none has more slots, or this one has a slot that none has, there are
+// none: so where it is the first one with a slot that is new.
+fn drop_supersets(signed: &mut SignedList, env: &Env, largest: u16, reach: &Env)
     requires out { IsCovered (HasMember signed.old.list.items) (members env.now) → ⊥ }
     requires at_most { AreAtMost largest (HasMember signed.old.list.items) }
+    requires within { AreWithin (members reach.now) (HasMember signed.old.list.items) }
     requires signed { IsSigned signed.old }
     ensures left { signed.new.list.items ≡ filter (λ e. not (is_within SLOTS (members env.now) (members e))) signed.old.list.items }
     ensures signed { IsSigned signed.new }
     ensures room { HasRoom signed.old → HasRoom signed.new }
 {
-    if env.size() < largest {
+    if env.size() >= largest {
+        return;
+    }
+    if env.is_subset(reach) {
         signed.drop_over(env);
     }
 }
