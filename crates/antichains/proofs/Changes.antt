@@ -1,12 +1,12 @@
 -- Changes of antichains.
-use Rattle.std.proofs.Common.{◌≡◌, ℕ, ◌<◌, ◌≤◌, inl, inr, Bool, not, IsTrue, ◌↔◌, refl, sym, ap, subst, ◌∙◌, List, [], ◌∷◌, ◌++◌, length, get_or, Option, Some, None, MatchOption, is_some, arith}
-use Rattle.std.proofs.lemmas.Bool.{false≢true, both_ways, not-true, not_from_false, false_from_ne_true}
+use Rattle.std.proofs.Common.{◌≡◌, ℕ, ◌<◌, ◌≤◌, inl, inr, Bool, false, not, ◌||◌, IsTrue, ◌↔◌, refl, sym, ap, subst, ◌∙◌, List, [], ◌∷◌, ◌++◌, length, get_or, Option, Some, None, MatchOption, is_some, arith}
+use Rattle.std.proofs.lemmas.Bool.{false≢true, and_from, or_left, or_right, eqb-true, both_ways, not-true, not_from_false, false_from_ne_true}
 use Rattle.std.proofs.lemmas.List.{length-map}
 use Rattle.std.proofs.lemmas.Option.{slice_get-get_or}
 use Rattle.std.specs.List.{filter, slice_get}
 use Rattle.environment_sets.specs.declared.environment.Env.{Env}
 use Rattle.environment_sets.specs.declared.environment.TheConstants.{SLOTS}
-use Rattle.environment_sets.specs.Sets.{Set, ◌⊆◌, IsBelow, size_below, is_within}
+use Rattle.environment_sets.specs.Sets.{Set, ◌⊆◌, ◌∪◌, ◌∖◌, only, IsBelow, size_below, is_within}
 use Rattle.environment_sets.specs.Families.{IsCovered, Adds, Drops, AreInside}
 use Rattle.environment_sets.specs.Members.{members, sets, HasMember}
 use Rattle.environment_sets.specs.Lists.{IsIn, AreDistinct, IsRoster}
@@ -14,7 +14,7 @@ use Rattle.environment_sets.proofs.Families.{Adds-antichain, Drops-antichain}
 use Rattle.environment_sets.proofs.Listings.{sets-push, IsIn-push, IsIn-front, IsIn-last, IsIn-filter, IsIn-kept, IsRising-filter, map-filter}
 use Rattle.environment_sets.proofs.Membership.{AreDistinct-push, IsIn-map, map-IsIn, IsIn-slice_get}
 use Rattle.environment_sets.proofs.Slots.{slots_are_below}
-use Rattle.antichains.specs.Largest.{AreAtMost, ListsAntichain}
+use Rattle.antichains.specs.Largest.{AreAtMost, AreWithin, ListsAntichain}
 use Rattle.antichains.specs.Signed.{HasSubsetAt}
 use Rattle.antichains.proofs.Larger.{as_large, filter_keeps}
 use Rattle.environment_sets.proofs.Within.{within_holds, holds_within}
@@ -69,6 +69,9 @@ none_left_out e es n few at_most uncovered = sym (filter_keeps (λ m. leaves_out
     let there : HasMember es (members m) = map-IsIn members es m i in
     let size : size_below SLOTS (members m) ≤ n = at_most (members m) there in
     uncovered (members m, there, as_large (members e) (members m) within SLOTS (slots_are_below m) (omega (arith, size, few))))))
+
+pub none_over : (e : Env) (es : List Env) (U : Set ℕ) → AreWithin U (HasMember es) → (members e ⊆ U → ⊥) → es ≡ filter (λ m. leaves_out e (members m)) es
+none_over e es U inside out = sym (filter_keeps (λ m. leaves_out e (members m)) es (λ m i. holds_leaves_out e (members m) (λ within. out (λ k h. inside (members m) (map-IsIn members es m i) k (within k h)))))
 
 pub adds-left : (e : Env) (old left new : List Env) → IsLeft (leaves_out e) old left → new ≡ left ++ e ∷ [] → Adds (IsIn (sets old)) (IsIn (sets new)) (members e)
 adds-left e old left new is pushed =
@@ -126,4 +129,30 @@ inside-left es left mask n filtered count distinct = record {
   inside = sets left;
   exact = roster-left es left mask filtered distinct;
   count = count ∙ sym (length-map left members);
+}
+
+-- what is left has no slot outside either
+pub within-left : (U : Set ℕ) (P : Set ℕ → Type 0) (old new : List Env) → Drops (HasMember old) (HasMember new) P → AreWithin U (HasMember old) → AreWithin U (HasMember new)
+within-left U P old new drops inside E h = inside E ((drops E).0 h).0
+
+-- where what has the slot is dropped, none has it
+pub within-dropped : (U : Set ℕ) (slot : ℕ) (old new : List Env) → Drops (HasMember old) (HasMember new) (λ F. IsTrue (F slot)) → AreWithin U (HasMember old) → AreWithin (U ∖ only slot) (HasMember new)
+within-dropped U slot old new drops inside E h k is =
+    let kept = (drops E).0 h in
+    let other : only slot k ≡ false = false_from_ne_true (only slot k) (λ here. kept.1 (let P : ℕ → Type 0 = λ j. IsTrue (E j) in subst P (eqb-true k slot here) is)) in
+    and_from (U k) (not (only slot k)) (inside E kept.0 k is) (not_from_false (only slot k) other)
+
+-- with one set more
+pub within-added : (U : Set ℕ) (e : Env) (old new : List Env) → Adds (HasMember old) (HasMember new) (members e) → AreWithin U (HasMember old) → AreWithin (U ∪ members e) (HasMember new)
+within-added U e old new adds inside E h k is = elim ((adds E).0 h) as (λ _. IsTrue (U k || members e k)) [
+  | inl same ↦ or_right (U k) (members e k) (let P : Set ℕ → Type 0 = λ F. IsTrue (F k) in subst P (sym same) is)
+  | inr kept ↦ or_left (U k) (members e k) (inside E kept.0 k is)
+]
+
+-- where all that the members have is inside the mask, each of them is
+pub inside-all : (es : List Env) (U mask : Set ℕ) → AreDistinct (sets es) → AreWithin U (HasMember es) → U ⊆ mask → AreInside (HasMember es) mask (length es)
+inside-all es U mask distinct inside within = record {
+  inside = sets es;
+  exact = record { distinct = distinct; exact = λ E. ((λ h. (h, λ k is. within k (inside E h k is))), λ h. h.0) };
+  count = sym (length-map es members);
 }

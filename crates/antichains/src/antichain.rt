@@ -7,7 +7,7 @@ ghost use Rattle.environment_sets.specs.Members.{members, sets, HasMember};
 ghost use Rattle.environment_sets.specs.Families.{IsCovered, IsAntichain, Adds, Drops, AreInside};
 ghost use Rattle.environment_sets.specs.Orders.{ListsAll, IsOrder};
 ghost use Rattle.environment_sets.specs.Walks.{ComesAfter, GivesNextEnv, envs_left};
-ghost use Rattle.antichains.specs.Largest.{AreAtMost};
+ghost use Rattle.antichains.specs.Largest.{AreAtMost, AreWithin};
 ghost use Rattle.antichains.specs.Signed.{HasSubsetAt, IsSigned, HasRoom};
 
 use crate::nearest::first_after;
@@ -32,19 +32,22 @@ pub struct Antichain {
     signed: SignedList,
     // No member has more slots. Nothing that has as many is contained in another member.
     largest: u16,
+    // No member has a slot outside. Where all of it is inside a mask, each member is.
+    reach: Env,
 }
 
 impl Model for Antichain {
     ghost use Rattle.std.specs.Prelude.{List};
     ghost use Rattle.environment_sets.specs.declared.environment.Env.{Env};
-    ghost use Rattle.antichains.specs.Largest.{ListsAntichain};
+    ghost use Rattle.environment_sets.specs.Members.{members, HasMember};
+    ghost use Rattle.antichains.specs.Largest.{AreWithin, ListsAntichain};
     ghost use Rattle.antichains.specs.Signed.{IsSigned};
 
     ghost Value = { List Env };
 
     ghost view = { λ a. a.signed.list.items };
 
-    ghost invariant = { λ a. ListsAntichain a.largest a.signed.list.items × IsSigned a.signed };
+    ghost invariant = { λ a. ListsAntichain a.largest a.signed.list.items × IsSigned a.signed × AreWithin (members a.reach) (HasMember a.signed.list.items) };
 }
 
 impl Antichain {
@@ -55,6 +58,7 @@ impl Antichain {
         Antichain {
             signed: SignedList::new(alloc),
             largest: 0,
+            reach: Env::empty(),
         }
     }
 
@@ -92,16 +96,20 @@ impl Antichain {
         ensures antichain { IsAntichain (HasMember self.new) }
     {
         self.signed.make_room()?;
-        drop_supersets(&mut self.signed, &env, self.largest);
+        drop_supersets(&mut self.signed, &env, self.largest, &self.reach);
         self.largest = self.largest.max(env.size());
+        self.reach = self.reach.union(env);
         self.signed.push(env);
         Ok(())
     }
 
-    /// How many members are inside the mask.
+    /// How many members are inside the mask. They are looked at only where one of them may have a slot outside.
     pub fn count_inside(&self, mask: &Env) -> usize
         ensures { AreInside (HasMember self.now) (members mask.now) result }
     {
+        if self.reach.is_subset(mask) {
+            return self.signed.list.len();
+        }
         self.signed
             .list
             .iter()
@@ -170,6 +178,7 @@ impl Antichain {
         ensures antichain { IsAntichain (HasMember self.new) }
     {
         self.signed.drop_slot(slot);
+        self.reach = self.reach.without(slot);
     }
 
     /// Drops the members that contain the environment. It takes no memory.
@@ -194,16 +203,21 @@ impl Antichain {
     }
 }
 
-// Drops the environments that contain this one. Where none has more slots than this one, there are none.
-fn drop_supersets(signed: &mut SignedList, env: &Env, largest: u16)
+// Drops the environments that contain this one. Where none has more slots, or this one has a slot that none has, there are
+// none: so where it is the first one with a slot that is new.
+fn drop_supersets(signed: &mut SignedList, env: &Env, largest: u16, reach: &Env)
     requires out { IsCovered (HasMember signed.old.list.items) (members env.now) → ⊥ }
     requires at_most { AreAtMost largest (HasMember signed.old.list.items) }
+    requires within { AreWithin (members reach.now) (HasMember signed.old.list.items) }
     requires signed { IsSigned signed.old }
     ensures left { signed.new.list.items ≡ filter (λ e. not (is_within SLOTS (members env.now) (members e))) signed.old.list.items }
     ensures signed { IsSigned signed.new }
     ensures room { HasRoom signed.old → HasRoom signed.new }
 {
-    if env.size() < largest {
+    if env.size() >= largest {
+        return;
+    }
+    if env.is_subset(reach) {
         signed.drop_over(env);
     }
 }
