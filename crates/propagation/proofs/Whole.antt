@@ -5,7 +5,7 @@ use Rattle.environment_sets.specs.Lists.{IsIn}
 use Rattle.environment_sets.specs.Sets.{Set, ◌⊆◌}
 use Rattle.circuit_model.specs.Stock.{Stock, IsEnvironment, Has}
 use Rattle.circuit_model.specs.Settled.{IsSettled}
-use Rattle.propagation.specs.Propagating.{Target, Family, RecordedInference, HasAt, HasMaker, AreChosen, SomeWaits, IsReached, IsDue, All, AreRecorded, AreCarriedOut, IsPendingSound, IsWaitingSound, Waits, HaveComeSoundly, AgreeWithout, IsPut, IsPropagating}
+use Rattle.propagation.specs.Propagating.{Target, Family, RecordedInference, HasAt, HasMaker, AreChosen, SomeWaits, IsReached, IsDue, All, AreRecorded, IsPendingSound, Waits, AgreeWithout, IsPut, IsPropagating}
 use Rattle.propagation.proofs.Steps.{reached_stays, reached_there, put_sound, put_agrees, SomeWaits-map, carried_on, carried_pick}
 use Rattle.propagation.proofs.Entry.{has_slot}
 use Rattle.propagation.proofs.Ends as ends
@@ -40,7 +40,7 @@ module _
         before = was.before;
         are = was.are;
         were_met = was.were_met;
-        carried = carried_on S kept kept recorded pending pending' Now Now was.carried (still_due kept (λ s E x. x) (λ E within. larger E within r)) (λ j f m w. w) (λ j f m r i k. inl k);
+        carried = carried_on S kept kept recorded pending pending' Now Now was.carried (λ s E x. x) (still_due kept (λ s E x. x) (λ E within. larger E within r)) (λ j f m w. w) (λ j f m r i k. inl k);
         due = due_fewer;
         waiting = was.waiting;
         arrivals = was.arrivals;
@@ -82,7 +82,7 @@ module _
             before = λ s E without h. reached_stays t U kept kept' put s E (was.before s E without h);
             are = was.are;
             were_met = λ f E k. elim (put.only (Some f) E k) [ inl e ↦ target_met f e.0 | inr o ↦ was.were_met f E o.0 ];
-            carried = carried_on S kept kept' recorded pending pending' Now (Waits recorded at_hand came') was.carried on widen anew;
+            carried = carried_on S kept kept' recorded pending pending' Now (Waits recorded at_hand came') was.carried (reached_stays t U kept kept' put) on widen anew;
             due = due_fewer;
             waiting = was.waiting;
             arrivals = record {
@@ -144,7 +144,7 @@ module _
           before = was.before;
           are = was.are;
           were_met = was.were_met;
-          carried = carried_on S kept kept recorded pending pending Now (Waits recorded at_hand' came') was.carried (λ t E d. d) at_either (λ j g m r i k. inl k);
+          carried = carried_on S kept kept recorded pending pending Now (Waits recorded at_hand' came') was.carried (λ t E x. x) (λ t E d. d) at_either (λ j g m r i k. inl k);
           due = was.due;
           waiting = record {
             inference = λ j g m w. elim (items j g m w) [ inl o ↦ was.waiting.inference j g m o | inr n ↦ n.0 ];
@@ -185,7 +185,8 @@ module _
             inferences = λ j ms E r chosen maker. elim (new j r) [
               | inl r0 ↦ elim (was.carried.inferences j ms E r0 chosen maker) [
                 | inl at_once ↦ inl at_once
-                | inr w ↦ inr (SomeWaits-map (Now j) (Waits recorded' at_hand came j) j.from ms (still_waits j) w)
+                | inr (inl w) ↦ inr (inl (SomeWaits-map (Now j) (Waits recorded' at_hand came j) j.from ms (still_waits j) w))
+                | inr (inr back) ↦ inr (inr back)
               ]
               | inr i ↦ absurd (none_chosen E j.from ms i chosen)
             ];
@@ -210,7 +211,7 @@ module _
       before = was.before;
       are = was.are;
       were_met = was.were_met;
-      carried = carried_on S kept kept recorded pending pending' Now (Waits recorded at_hand' came') was.carried (λ t E d. elim d [ inl r ↦ inl r | inr p ↦ inr (p.0, (dues t p.0).0 p.1, p.2) ]) alike (λ j f m r i k. inl k);
+      carried = carried_on S kept kept recorded pending pending' Now (Waits recorded at_hand' came') was.carried (λ t E x. x) (λ t E d. elim d [ inl r ↦ inl r | inr p ↦ inr (p.0, (dues t p.0).0 p.1, p.2) ]) alike (λ j f m r i k. inl k);
       due = record { environments = λ t E p. was.due.environments t E ((dues t E).1 p); sound = λ t E p. was.due.sound t E ((dues t E).1 p) };
       waiting = record {
         inference = λ j f m w. was.waiting.inference j f m ((items j f m).1 w);
