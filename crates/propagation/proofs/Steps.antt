@@ -6,7 +6,7 @@ use Rattle.environment_sets.specs.Sets.{Set, ◌⊆◌}
 use Rattle.circuit_model.specs.Stock.{Stock, IsEnvironment}
 use Rattle.environment_sets.specs.Families.{IsAntichain}
 use Rattle.circuit_model.proofs.Monotony.{IsForced-map}
-use Rattle.propagation.specs.Propagating.{Target, Family, RecordedInference, HasAt, HasMaker, AreChosen, SomeWaits, IsReached, IsDue, IsSourced, LeadsBack, IsSound, AreCarriedOut, AgreeWithout, IsPut}
+use Rattle.propagation.specs.Propagating.{Target, Family, RecordedInference, HasAt, HasMaker, AreChosen, SomeWaits, IsReached, IsDue, IsSourced, LeadsBack, IsPassedOver, IsSound, AreCarriedOut, AgreeWithout, IsPut}
 
 -- a set is put in
 module _ (t : Target) (U : Set ℕ) (old new : Family) (put : IsPut t U old new) where
@@ -106,6 +106,13 @@ SomeWaits-map v w (f ∷ fs) [] g h = absurd h
 SomeWaits-map v w (f ∷ fs) (m ∷ ms) g (inl h) = inl (g f m h)
 SomeWaits-map v w (f ∷ fs) (m ∷ ms) g (inr h) = inr (SomeWaits-map v w fs ms g h)
 
+-- what waits is one thing or the other
+parted : (v w x : Fact → Set ℕ → Type 0) (fs : List Fact) (ms : List (Set ℕ)) → ((f : Fact) (m : Set ℕ) → v f m → w f m ⊎ x f m) → SomeWaits v fs ms → SomeWaits w fs ms ⊎ SomeWaits x fs ms
+parted v w x [] ms g h = absurd h
+parted v w x (f ∷ fs) [] g h = absurd h
+parted v w x (f ∷ fs) (m ∷ ms) g (inl h) = elim (g f m h) [ inl a ↦ inl (inl a) | inr b ↦ inr (inl b) ]
+parted v w x (f ∷ fs) (m ∷ ms) g (inr h) = elim (parted v w x fs ms g h) [ inl a ↦ inl (inr a) | inr b ↦ inr (inr b) ]
+
 -- what has its source still has it where more is reached
 module _ (S : Stock ℕ) (kept kept' : Family) (stays : (t : Target) (E : Set ℕ) → IsReached kept t E → IsReached kept' t E) where
   pub IsSourced-map : (slot : ℕ) (f : Fact) (m : Set ℕ) → IsSourced S kept slot f m → IsSourced S kept' slot f m
@@ -132,6 +139,29 @@ module _ (S : Stock ℕ) (kept kept' : Family) (recorded : RecordedInference →
         | inr (inr back) ↦ inr (inr (LeadsBack-map S kept kept' stays j.maker j.from ms back))
       ]
       | inr w ↦ inr (inl w)
+    ];
+  }
+
+  -- what is passed over
+  back_of : (maker : Option ℕ) (fs : List Fact) (ms : List (Set ℕ)) → SomeWaits (IsPassedOver S kept maker) fs ms → LeadsBack S kept maker fs ms
+  back_of maker [] ms h = absurd h
+  back_of maker (f ∷ fs) [] h = absurd h
+  back_of maker (f ∷ fs) (m ∷ ms) (inl h) = record { slot = h.slot; made = h.made; lone = h.lone; some_sourced = inl h.sourced }
+  back_of maker (f ∷ fs) (m ∷ ms) (inr h) = let r : LeadsBack S kept maker fs ms = back_of maker fs ms h in record { slot = r.slot; made = r.made; lone = r.lone; some_sourced = inr r.some_sourced }
+
+  -- what waited waits, or it is passed over
+  pub carried_past :
+      AreCarriedOut S kept recorded pending waits → ((j : RecordedInference) (f : Fact) (m : Set ℕ) → waits j f m → waits' j f m ⊎ IsPassedOver S kept j.maker f m)
+      → AreCarriedOut S kept recorded pending waits'
+  carried_past c past = record {
+    readings = c.readings;
+    inferences = λ j ms E r chosen maker. elim (c.inferences j ms E r chosen maker) [
+      | inl due ↦ inl due
+      | inr (inr back) ↦ inr (inr back)
+      | inr (inl w) ↦ elim (parted (waits j) (waits' j) (IsPassedOver S kept j.maker) j.from ms (past j) w) [
+        | inl still ↦ inr (inl still)
+        | inr passed ↦ inr (inr (back_of j.maker j.from ms passed))
+      ]
     ];
   }
 

@@ -168,6 +168,22 @@ pub record HaveComeSoundly (S : Stock ℕ) (came : Fact → Set ℕ → Type 0) 
   pub environment : (f : Fact) (E : Set ℕ) → came f E → IsEnvironment S E
   pub sound : (f : Fact) (E : Set ℕ) → came f E → Has S f E
 
+-- what is due to a component, and what came by one, has its source there; what is at hand and what came is reached at its fact
+pub record AreSourced
+    (S : Stock ℕ) (kept : Family) (due_by : ℕ → Fact → Set ℕ → Type 0) (at_hand : RecordedInference → Fact → Set ℕ → Type 0) (came : Fact → Set ℕ → Type 0)
+    (came_by : ℕ → Fact → Set ℕ → Type 0) : Type 0 where
+  pub due : (k : ℕ) (f : Fact) (E : Set ℕ) → due_by k f E → IsSourced S kept k f E
+  pub at_hand_reached : (j : RecordedInference) (f : Fact) (E : Set ℕ) → at_hand j f E → IsReached kept (Some f) E
+  pub came_reached : (f : Fact) (E : Set ℕ) → came f E → IsReached kept (Some f) E
+  pub came_sourced : (k : ℕ) (f : Fact) (E : Set ℕ) → came_by k f E → IsSourced S kept k f E
+
+-- the maker of the inference is one instance, and the fact with the set has its source in it
+pub record IsPassedOver (S : Stock ℕ) (kept : Family) (maker : Option ℕ) (f : Fact) (E : Set ℕ) : Type 0 where
+  pub slot : ℕ
+  pub made : maker ≡ Some slot
+  pub lone : IsLone S slot
+  pub sourced : IsSourced S kept slot f E
+
 -- the two keep the same sets that lack the slot
 abbrev pub AgreeWithout : ℕ → Family → Family → Type 0
 AgreeWithout slot old new = (t : Target) (E : Set ℕ) → IsFalse (E slot) → old t E ↔ new t E
