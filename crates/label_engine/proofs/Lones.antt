@@ -1,10 +1,9 @@
 -- Which components are one instance.
-use Rattle.std.proofs.Common.{◌≡◌, ℕ, zero, suc, ◌+◌, ◌^◌, ◌≤◌, ◌<◌, sym, subst, ◌∙◌, List, [], ◌∷◌, length, Some, slice_get, arith}
+use Rattle.std.proofs.Common.{◌≡◌, ℕ, zero, suc, ◌^◌, ◌≤◌, ◌<◌, subst, List, [], ◌∷◌, length, Some, slice_get, arith}
 use Rattle.std.proofs.Math.Pow.{pow-lt}
 use Rattle.circuit_model.specs.declared.model.Instance.{Instance}
 use Rattle.circuit_model.specs.declared.model.Assumption.TheVariants.{Part}
 use Rattle.circuit_model.specs.Lawful.{IsLawfulInstance}
-use Rattle.propagation.specs.Propagating.{IsLone}
 use Rattle.label_engine.specs.Sources.{HaveOwnCells, AreWide, IsLonePart}
 
 more_than_one : (n : ℕ) → 1 ≤ n → 1 < 2 ^ n

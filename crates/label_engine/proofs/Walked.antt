@@ -62,17 +62,6 @@ one_more item nodes envs env old mid new was (inr (same, reached)) =
       only = λ x i. elim (was.only x i) [ inl first ↦ inl first | inr r ↦ inr (r.0, member_front envs (env ∷ []) r.0 r.1, r.2) ];
     })
 
--- what begins the unions and an environment together are the slots of a union
-pub joined_from : (item : Pending) (begun d : Insertion) (E : Set ℕ) → BeginsUnions item begun → members d.env ≡ members begun.env ∪ E → members d.env ≡ union_of item E
-joined_from item begun d E begins joined = joined ∙ ap (λ (F : Set ℕ). F ∪ E) begins.joined
-
--- a union that is covered is reached
-pub covered_union : (item : Pending) (nodes : Nodes) (d : Insertion) (E : Set ℕ) → d.target ≡ item.inferred.to → members d.env ≡ union_of item E → IsReached (KeptIn nodes) d.target (members d.env) → IsReached (KeptIn nodes) item.inferred.to (union_of item E)
-covered_union item nodes d E target joined reached =
-    let Q : Target → Type 0 = λ t. IsReached (KeptIn nodes) t (members d.env) in
-    let R : Set ℕ → Type 0 = λ F. IsReached (KeptIn nodes) item.inferred.to F in
-    subst R joined (subst Q target reached)
-
 -- where what all unions have is reached, each of them is
 pub all_reached : (item : Pending) (nodes : Nodes) (envs : List Env) (old : List Insertion) (begun : Insertion) → BeginsUnions item begun → IsReached (KeptIn nodes) begun.target (members begun.env) → HasUnionsWith item nodes envs old old
 all_reached item nodes envs old begun begins reached = record {

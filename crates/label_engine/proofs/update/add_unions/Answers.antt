@@ -1,5 +1,4 @@
 use Rattle.std.proofs.Common.{sym, ◌∙◌}
-use Rattle.environment_sets.specs.Members.{members}
 use Rattle.label_engine.proofs.Picks.{alone}
 use Rattle.label_engine.proofs.Pieces.{IfOk-map, unions_with_other}
 use Rattle.label_engine.proofs.update.add_unions.Goals as goal

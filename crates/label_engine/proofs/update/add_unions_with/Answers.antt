@@ -3,7 +3,7 @@ use Rattle.std.proofs.lemmas.List.{take_more, take_all}
 use Rattle.environment_sets.specs.declared.environment.Env.{Env}
 use Rattle.environment_sets.specs.Members.{members, HasMember}
 use Rattle.environment_sets.specs.Families.{IsCovered}
-use Rattle.label_engine.specs.Update.{IsUnion, HasUnionsWith}
+use Rattle.label_engine.specs.Update.{HasUnionsWith}
 use Rattle.label_engine.proofs.Walked.{none_yet, one_more, all_reached}
 use Rattle.label_engine.proofs.update.add_unions_with.Goals as goal
 
