@@ -16,18 +16,17 @@ use Rattle.environment_sets.specs.declared.environment.Env.{Env}
 use Rattle.environment_sets.specs.Sets.{Set, ◌⊆◌, only}
 use Rattle.environment_sets.specs.Members.{members, HasMember}
 use Rattle.environment_sets.specs.Lists.{IsIn}
-use Rattle.propagation.specs.Propagating.{Target, RecordedInference, HasAt, HasMaker, AreChosen, SomeWaits, IsDue, IsSound, HasInference, All, AreRecorded, IsPendingSound, IsWaitingSound, IsPropagating}
+use Rattle.propagation.specs.Propagating.{Target, RecordedInference, HasAt, HasMaker, AreChosen, SomeWaits, IsDue, IsSound, HasInference, All, AreRecorded, IsReached, IsSourced, AreSourced, IsPendingSound, IsWaitingSound, IsPropagating}
 use Rattle.propagation.proofs.Start.{NoItem, NoArrival, start_reading, start_part, choice_reached, sound_of_settled}
 use Rattle.propagation.proofs.Entry.{leads_more, sound_more}
 use Rattle.propagation.proofs.Unions.{leads_on}
 use Rattle.propagation.proofs.Whole as whole
 use Rattle.label_engine.specs.declared.node.Node.{Node}
 use Rattle.label_engine.specs.declared.node.Insertion.{Insertion}
-use Rattle.label_engine.specs.declared.update.Arrival.{Arrival}
 use Rattle.label_engine.specs.declared.update.Pending.{Pending}
 use Rattle.label_engine.specs.declared.update.Update.{Update}
 use Rattle.label_engine.specs.Nodes.{facts_of, label_in, KeptIn}
-use Rattle.label_engine.specs.Update.{before, DueIn, IsAtHand, HasCome, Holds, IsAtRest, some_fact, goes_from_none, due_with, item_at, items_with, items_from}
+use Rattle.label_engine.specs.Update.{before, DueIn, DueBy, IsAtHand, HasCome, HasComeBy, Holds, IsAtRest, some_fact, goes_from_none, due_with, item_at, items_with, items_from}
 use Rattle.inference_search.specs.declared.inferred.Inferred.{Inferred}
 use Rattle.assumption_slots.specs.Slots.{stock}
 use Rattle.inference_search.specs.Inferences.{facts, inference, RecordedIn}
@@ -163,7 +162,7 @@ module _ (slots : List (Option Assumption)) (w : Update) (rest : IsAtRest (befor
   -- a reading: its own environment is due
   module _ (f : Fact) (reads : stock slots w.slot ≡ Some (Reading f)) where
     abbrev First : Insertion
-    First = record { target = Some f; env = env }
+    First = record { target = Some f; env = env; source = None }
 
     first_environment : IsEnvironment (stock slots) (members env)
     first_environment = only_environment slots w.slot env is (rw reads refl)
@@ -186,13 +185,23 @@ module _ (slots : List (Option Assumption)) (w : Update) (rest : IsAtRest (befor
     alone : (E : Set ℕ) → IsTrue (E w.slot) → IsCovered (DueIn (First ∷ []) (Some f)) E
     alone E h = (members env, (First, inl refl, refl, refl), only_inside slots w.slot env is E h)
 
-    first_due : Holds slots w.slot w.nodes w.recorded (First ∷ []) [] []
-    first_due =
+    reading_sourced : (k : ℕ) (g : Fact) (E : Set ℕ) → DueBy (First ∷ []) k g E → IsSourced (stock slots) (KeptIn w.nodes) k g E
+    reading_sourced k g E (d, inl e, at, by, is) = absurd (let none : None ≡ d.source = ap (λ (x : Insertion). x.source) e in let no : None ≡ Some k = none ∙ by in cc)
+    reading_sourced k g E (d, inr bad, at, by, is) = absurd bad
+
+    first_sourced : AreSourced (stock slots) (KeptIn w.nodes) (DueBy (First ∷ [])) (IsAtHand []) (HasCome []) (HasComeBy [])
+    first_sourced = record { due = reading_sourced; at_hand_reached = λ j g E h. absurd h.1; came_reached = λ g E h. absurd h.1; came_sourced = λ k g E h. absurd h.1 }
+
+    first_propagating : IsPropagating (stock slots) w.slot Met (KeptIn w.nodes) Old (DueIn (First ∷ [])) (IsAtHand []) (HasCome [])
+    first_propagating =
         let was : IsPropagating (stock slots) w.slot Met (KeptIn w.nodes) Old (DueIn (First ∷ [])) NoItem NoArrival =
         start_reading S (stock slots) w.slot more (decide w.slot) Met (KeptIn w.nodes) Old rest.up_to_date.settled rest.up_to_date.are rest.up_to_date.were_met (DueIn (First ∷ []))
         (record { environments = due_environment; sound = due_has }) f reads alone in
         whole.reordered (stock slots) w.slot Met (KeptIn w.nodes) Old (DueIn (First ∷ [])) NoItem NoArrival was (DueIn (First ∷ [])) (IsAtHand []) (HasCome [])
         (λ t E. ((λ (k : DueIn (First ∷ []) t E). k), (λ (k : DueIn (First ∷ []) t E). k))) (λ j g m. ((λ (h : ⊥). absurd h), (λ (h : IsAtHand [] j g m). h.1))) none_came
+
+    first_due : Holds slots w.slot w.nodes w.recorded (First ∷ []) [] []
+    first_due = record { propagating = first_propagating; sourced = first_sourced }
 
     pub reading_begins : (dues : List Insertion) → dues ≡ w.due.items ++ First ∷ [] → Holds slots w.slot w.nodes w.recorded dues w.work.items w.agenda
     reading_begins dues e = rw (e, rest.none_due, rest.none_at_hand, rest.nothing_waits) first_due
@@ -327,12 +336,30 @@ module _ (slots : List (Option Assumption)) (w : Update) (rest : IsAtRest (befor
               subst P n.2 (λ (c : AreChosen (KeptIn w.nodes) E (facts n.0.first n.0.second) ms) (m : HasMaker n.0.maker E). seen_to n.0 n.1 E m n.0.first n.0.second refl refl ms c) chosen maker
         ]
 
-    all_begun : Holds slots w.slot w.nodes New Dues Items []
-    all_begun =
+    due_sourced : (k : ℕ) (g : Fact) (E : Set ℕ) → DueBy Dues k g E → IsSourced (stock slots) (KeptIn w.nodes) k g E
+    due_sourced k g E d =
+        let i : (i : Inferred) × IsIn found i × IsTrue (goes_from_none i) × (due_with env i ≡ d.0) = due_of d.0 d.1 in
+        let none : None ≡ d.0.source = ap (λ (x : Insertion). x.source) i.3 in
+        absurd (let no : None ≡ Some k = none ∙ d.3 in cc)
+
+    items_reached : (j : RecordedInference) (g : Fact) (E : Set ℕ) → IsAtHand Items j g E → IsReached (KeptIn w.nodes) (Some g) E
+    items_reached j g E x =
+        let P : Set ℕ → Type 0 = λ F. IsReached (KeptIn w.nodes) (Some g) F in
+        let Q : Fact → Type 0 = λ f. IsReached (KeptIn w.nodes) (Some f) (members x.0.env) in
+        subst P x.4 (subst Q x.3 (inl (members x.0.env, (of_items w.nodes.list.items found x.0 x.1).kept, λ k h. h)))
+
+    all_sourced : AreSourced (stock slots) (KeptIn w.nodes) (DueBy Dues) (IsAtHand Items) (HasCome []) (HasComeBy [])
+    all_sourced = record { due = due_sourced; at_hand_reached = items_reached; came_reached = λ g E h. absurd h.1; came_sourced = λ k g E h. absurd h.1 }
+
+    all_propagating : IsPropagating (stock slots) w.slot Met (KeptIn w.nodes) (RecordedIn New) (DueIn Dues) (IsAtHand Items) (HasCome [])
+    all_propagating =
         let was : IsPropagating (stock slots) w.slot Met (KeptIn w.nodes) (RecordedIn New) (DueIn Dues) (IsAtHand Items) NoArrival =
         start_part S (stock slots) w.slot more (decide w.slot) Met (KeptIn w.nodes) Old rest.up_to_date.settled rest.up_to_date.are rest.up_to_date.were_met (DueIn Dues) due_now part works (RecordedIn New) (IsAtHand Items) now_recorded now_made waiting choices in
         whole.reordered (stock slots) w.slot Met (KeptIn w.nodes) (RecordedIn New) (DueIn Dues) (IsAtHand Items) NoArrival was (DueIn Dues) (IsAtHand Items) (HasCome [])
         (λ t E. ((λ (k : DueIn Dues t E). k), (λ (k : DueIn Dues t E). k))) (λ j g m. ((λ (h : IsAtHand Items j g m). h), (λ (h : IsAtHand Items j g m). h))) none_came
+
+    all_begun : Holds slots w.slot w.nodes New Dues Items []
+    all_begun = record { propagating = all_propagating; sourced = all_sourced }
 
     pub part_begins :
         (recorded : List Inferred) (dues : List Insertion) (items : List Pending) → recorded ≡ New → dues ≡ w.due.items ++ Dues → items ≡ w.work.items ++ Items

@@ -6,6 +6,7 @@ pub mod Families
 pub mod Picks
 pub mod Shelves
 pub mod Needed
+pub mod Lones
 pub mod Holding
 pub mod Walked
 pub mod Pieces

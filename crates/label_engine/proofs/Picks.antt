@@ -1,15 +1,18 @@
 -- An item is carried out.
-use Rattle.std.proofs.Common.{◌≡◌, ℕ, ◌<◌, length, IfSome, ◌⊎◌, inl, inr, true, false, ◌==◌, cond, IsTrue, true≢false, refl, sym, ap, subst, ◌∙◌, List, [], ◌∷◌, ◌++◌, Option, Some, None, arith}
+use Rattle.std.proofs.Common.{◌≡◌, ℕ, ◌<◌, ◌≤◌, length, IfSome, IsSome, ◌⊎◌, inl, inr, true, false, ◌==◌, cond, IsTrue, true≢false, refl, sym, ap, subst, ◌∙◌, List, [], ◌∷◌, ◌++◌, Option, Some, None, arith}
 use Rattle.std.proofs.lemmas.Bool.{or_cases, or_left, or_right}
 use Rattle.environment_sets.proofs.Membership.{IsIn-append, IsIn-left, IsIn-right}
 use Rattle.std.proofs.lemmas.Bool.Decides.{nat_tests}
 use Rattle.circuit_model.specs.declared.model.Fact.{Fact}
 use Rattle.circuit_model.specs.declared.model.Assumption.{Assumption}
 use Rattle.circuit_model.specs.Stock.{Stock, IsEnvironment, Has}
-use Rattle.environment_sets.specs.Sets.{Set, ◌⊆◌, ◌∪◌, no_elements}
+use Rattle.environment_sets.specs.Sets.{Set, ◌⊆◌, ◌∪◌, no_elements, size_below}
 use Rattle.environment_sets.specs.Members.{members}
 use Rattle.environment_sets.specs.Lists.{IsIn}
-use Rattle.propagation.specs.Propagating.{Target, RecordedInference, HasAt, Leads, HasMaker, AreChosen, SomeWaits, IsDue}
+use Rattle.propagation.specs.Propagating.{Target, RecordedInference, HasAt, Leads, HasMaker, AreChosen, SomeWaits, IsDue, IsReached, IsReachedUnderLess, IsSourced}
+use Rattle.propagation.proofs.Sources.{sourced_by, sourced_on}
+use Rattle.environment_sets.proofs.Slots.{slots_are_below}
+use Rattle.antichains.proofs.Larger.{as_large}
 use Rattle.propagation.proofs.Unions.{leads_on, has_more, maker_some}
 use Rattle.propagation.proofs.Whole as whole
 use Rattle.label_engine.specs.declared.node.Nodes.{Nodes}
@@ -18,12 +21,15 @@ use Rattle.inference_search.specs.declared.inferred.Inferred.{Inferred}
 use Rattle.label_engine.specs.declared.update.Arrival.{Arrival}
 use Rattle.label_engine.specs.declared.update.Pending.{Pending}
 use Rattle.label_engine.specs.Nodes.{facts_of, KeptIn}
-use Rattle.label_engine.specs.Update.{is_same_target, other_fact, made_by, DueIn, IsAtHand, HasCome, Holds, union_of, IsUnion, HasUnions}
+use Rattle.label_engine.specs.Update.{is_same_target, other_fact, made_by, DueIn, DueBy, IsAtHand, HasCome, HasComeBy, Holds, union_of, IsSourceOf, IsUnion, HasUnions}
 use Rattle.assumption_slots.specs.Slots.{stock}
 use Rattle.assumption_slots.proofs.Remembered.{some_within}
 use Rattle.environment_sets.specs.declared.environment.TheConstants.{SLOTS}
 use Rattle.inference_search.specs.Inferences.{facts, inference, RecordedIn}
 use Rattle.label_engine.proofs.Families.{same_target, target_same}
+
+less_or_not : (a b : ℕ) → (a < b) ⊎ (b ≤ a)
+less_or_not a b = grind arith
 
 maker_is : (maker : Option ℕ) (n : ℕ) → IsTrue (made_by maker n) → maker ≡ Some n
 maker_is None n h = absurd (true≢false (sym h))
@@ -104,16 +110,16 @@ module _ (slots : List (Option Assumption)) (slot : ℕ) (labels : Nodes) (recor
   left i g m (x, inr l, a, b, c) = inl (x, l, a, b, c)
 
   leads : Leads S It.from It.maker It.to
-  leads = was.are.leads It (was.waiting.inference It item.at (members item.env) it_is)
+  leads = was.propagating.are.leads It (was.propagating.waiting.inference It item.at (members item.env) it_is)
 
   at_from : IsIn It.from item.at
-  at_from = was.waiting.antecedent It item.at (members item.env) it_is
+  at_from = was.propagating.waiting.antecedent It item.at (members item.env) it_is
 
   -- a union with what has the other_fact is sound
   union_environment : (A : Set ℕ) (d : Insertion) → IsUnion item A d → IsEnvironment S A → IsEnvironment S (members d.env)
   union_environment A d is env n h =
       elim (of_union item A (members d.env) is.joined n h) [
-        | inl a ↦ was.waiting.environment It item.at (members item.env) it_is n a
+        | inl a ↦ was.propagating.waiting.environment It item.at (members item.env) it_is n a
         | inr r ↦ elim r [ inl b ↦ env n b | inr m ↦ maker_some S It.from It.maker It.to leads n m ]
       ]
 
@@ -121,17 +127,17 @@ module _ (slots : List (Option Assumption)) (slot : ℕ) (labels : Nodes) (recor
   union_has A d is has =
       let P : Target → Type 0 = λ t. HasAt S t (members d.env) in
       subst P (sym is.target) (leads_on S (members d.env) It.from It.maker It.to leads (in_union_maker item A (members d.env) is.joined) (λ f i. elim (from_at_or_other item.inferred.first item.inferred.second item.inferred refl refl item.at at_from f i) [
-        | inl e ↦ let Q : Fact → Type 0 = λ g. Has S g (members d.env) in subst Q (sym e) (has_more S (members d.env) (Some item.at) (members item.env) (in_union_at item A (members d.env) is.joined) (was.waiting.sound It item.at (members item.env) it_is))
+        | inl e ↦ let Q : Fact → Type 0 = λ g. Has S g (members d.env) in subst Q (sym e) (has_more S (members d.env) (Some item.at) (members item.env) (in_union_at item A (members d.env) is.joined) (was.propagating.waiting.sound It item.at (members item.env) it_is))
         | inr e ↦ has_more S (members d.env) (Some f) A (in_union_other item A (members d.env) is.joined) (has f e)
       ]))
 
   due_environments : (t : Target) (E : Set ℕ) → DueIn dues' t E → IsEnvironment S E
   due_environments t E (d, i, same, is) =
       subst (IsEnvironment S) is (elim (u.only d i) [
-        | inl o ↦ was.due.environments d.target (members d.env) (d, o, refl, refl)
+        | inl o ↦ was.propagating.due.environments d.target (members d.env) (d, o, refl, refl)
         | inr n ↦ elim n [
           | inl alone ↦ union_environment no_elements d alone.1 (λ n h. absurd (true≢false (sym h)))
-          | inr two ↦ union_environment two.1 d two.4 (was.sound.environments (Some two.0) two.1 two.3)
+          | inr two ↦ union_environment two.1 d two.4 (was.propagating.sound.environments (Some two.0) two.1 two.3)
         ]
       ])
 
@@ -140,10 +146,10 @@ module _ (slots : List (Option Assumption)) (slot : ℕ) (labels : Nodes) (recor
       let P : Set ℕ → Type 0 = λ F. HasAt S t F in
       let Q : Target → Type 0 = λ s. HasAt S s (members d.env) in
       subst P is (subst Q same (elim (u.only d i) [
-        | inl o ↦ was.due.sound d.target (members d.env) (d, o, refl, refl)
+        | inl o ↦ was.propagating.due.sound d.target (members d.env) (d, o, refl, refl)
         | inr n ↦ elim n [
           | inl alone ↦ union_has no_elements d alone.1 (λ f e. absurd (let bad : None ≡ Some f = sym alone.0 ∙ e in cc))
-          | inr two ↦ union_has two.1 d two.4 (λ f e. let same : Some two.0 ≡ Some f = sym two.2 ∙ e in let gf : two.0 ≡ f = cc in let R : Fact → Type 0 = λ g. Has S g two.1 in subst R gf (was.sound.sound (Some two.0) two.1 two.3))
+          | inr two ↦ union_has two.1 d two.4 (λ f e. let same : Some two.0 ≡ Some f = sym two.2 ∙ e in let gf : two.0 ≡ f = cc in let R : Fact → Type 0 = λ g. Has S g two.1 in subst R gf (was.propagating.sound.sound (Some two.0) two.1 two.3))
         ]
       ]))
 
@@ -211,11 +217,58 @@ module _ (slots : List (Option Assumption)) (slot : ℕ) (labels : Nodes) (recor
             ]
       ] refl
 
+  -- a union that is more than a part of it has more slots
+  larger : (d : Insertion) (F : Set ℕ) → F ⊆ members d.env → (members d.env ⊆ F → ⊥) → size_below SLOTS F < size_below SLOTS (members d.env)
+  larger d F inside more =
+      elim (less_or_not (size_below SLOTS F) (size_below SLOTS (members d.env))) [
+        | inl less ↦ less
+        | inr few ↦ absurd (more (as_large F (members d.env) inside SLOTS (slots_are_below d.env) few))
+      ]
+
+  union_sourced :
+      (A : Set ℕ) (d : Insertion) (k : ℕ) (f : Fact) → IsUnion item A d → d.target ≡ Some f → d.source ≡ Some k → ((g : Fact) → other_fact item.inferred item.at ≡ Some g → IsReached (KeptIn labels) (Some g) A)
+      → IsSourced S (KeptIn labels) k f (members d.env)
+  union_sourced A d k f is at by reached =
+      let source : IsSourceOf item A (members d.env) k = is.source k by in
+      let to : It.to ≡ Some f = sym is.target ∙ at in
+      let P : Option ℕ → Type 0 = λ m. Leads S It.from m (Some f) in
+      let Q : Target → Type 0 = λ t. Leads S It.from It.maker t in
+      sourced_by S (KeptIn labels) (members d.env) k It.from f (subst P source.maker (subst Q to leads)) (λ g i. elim (from_at_or_other item.inferred.first item.inferred.second item.inferred refl refl item.at at_from g i) [
+        | inl e ↦
+            let R : Fact → Type 0 = λ h. IsReachedUnderLess (KeptIn labels) (members d.env) h in
+            let inside : members item.env ⊆ members d.env = in_union_at item A (members d.env) is.joined in
+            subst R (sym e) (members item.env, inside, larger d (members item.env) inside source.more, was.sourced.at_hand_reached It item.at (members item.env) it_is)
+        | inr e ↦
+            let inside : A ⊆ members d.env = in_union_other item A (members d.env) is.joined in
+            (A, inside, larger d A inside source.more_than_other, reached g e)
+      ])
+
+  due_sourced : (k : ℕ) (f : Fact) (E : Set ℕ) → DueBy dues' k f E → DueBy dues k f E ⊎ IsSourced S (KeptIn labels) k f E
+  due_sourced k f E d =
+      elim (u.only d.0 d.1) [
+        | inl o ↦ inl (d.0, o, d.2, d.3, d.4)
+        | inr n ↦
+            let P : Set ℕ → Type 0 = λ F. IsSourced S (KeptIn labels) k f F in
+            inr (subst P d.4 (elim n [
+              | inl alone ↦ union_sourced no_elements d.0 k f alone.1 d.2 d.3 (λ g e. absurd (let bad : None ≡ Some g = sym alone.0 ∙ e in cc))
+              | inr two ↦ union_sourced two.1 d.0 k f two.4 d.2 d.3 (λ g e.
+                  let same : Some two.0 ≡ Some g = sym two.2 ∙ e in
+                  let gf : two.0 ≡ g = cc in
+                  let R : Fact → Type 0 = λ h. KeptIn labels (Some h) two.1 in
+                  inl (two.1, subst R gf two.3, λ i h. h))
+            ]))
+      ]
+
   pub holds_picked : Holds slots slot labels recorded dues' work agenda
-  holds_picked =
-      whole.picked S slot (IsIn (facts_of labels.list.items)) (KeptIn labels) (RecordedIn recorded) (DueIn dues) (IsAtHand (item ∷ work)) (HasCome agenda) was (DueIn dues') (IsAtHand work) It item.at (members item.env)
-      left (λ i g m w. (w.0, inr w.1, w.2, w.3, w.4)) (λ t E k. (k.0, u.stays k.0 k.1, k.2, k.3)) (record { environments = due_environments; sound = due_has })
-      (unions item.inferred.first item.inferred.second refl refl)
+  holds_picked = record {
+    propagating =
+        whole.picked S slot (IsIn (facts_of labels.list.items)) (KeptIn labels) (RecordedIn recorded) (DueIn dues) (IsAtHand (item ∷ work)) (HasCome agenda) was.propagating (DueIn dues') (IsAtHand work) It item.at (members item.env)
+        left (λ i g m w. (w.0, inr w.1, w.2, w.3, w.4)) (λ t E k. (k.0, u.stays k.0 k.1, k.2, k.3)) (record { environments = due_environments; sound = due_has })
+        (unions item.inferred.first item.inferred.second refl refl);
+    sourced =
+        sourced_on S (KeptIn labels) (KeptIn labels) (DueBy dues) (DueBy dues') (HasComeBy agenda) (HasComeBy agenda) (IsAtHand (item ∷ work)) (IsAtHand work) (HasCome agenda) (HasCome agenda) was.sourced
+        (λ t E r. r) due_sourced (λ j f E w. inl (w.0, inr w.1, w.2, w.3, w.4)) (λ f E c. inl c) (λ k f E c. inl c);
+  }
 
 -- the item's only fact is the one at which it is at hand
 pub alone : (item : Pending) (labels : Nodes) (old : List Insertion) (d : Insertion) → other_fact item.inferred item.at ≡ None → IsUnion item no_elements d → HasUnions item labels old (old ++ d ∷ [])
@@ -232,13 +285,27 @@ alone item labels old d p is = record {
   ];
 }
 
+-- the source of what came is below the bound
+pub source_fits :
+    (slots : List (Option Assumption)) (slot : ℕ) (nodes : Nodes) (recorded : List Inferred) (dues : List Insertion) (work : List Pending) (agenda : List Arrival) (arrival : Arrival)
+    → Holds slots slot nodes recorded dues work (arrival ∷ agenda) → length slots ≡ SLOTS → IfSome arrival.source (λ k. k < SLOTS)
+source_fits slots slot nodes recorded dues work agenda arrival was wide =
+    elim arrival.source as (λ m. arrival.source ≡ m → IfSome m (λ k. k < SLOTS)) [
+      | None ↦ λ _. tt
+      | Some k ↦ λ is.
+          let s : IsSourced (stock slots) (KeptIn nodes) k arrival.fact (members arrival.env) = was.sourced.came_sourced k arrival.fact (members arrival.env) (arrival, inl refl, refl, is, refl) in
+          let same : s.assumed.0 ≡ k = (let e : Some k ≡ Some s.assumed.0 = s.assumed.1 in cc) in
+          let P : ℕ → Type 0 = λ i. IsSome (stock slots i) in
+          subst (λ (n : ℕ). k < n) wide (some_within slots k (subst P same (rw s.assumed.2 refl)))
+    ] refl
+
 -- the maker of what is at hand is below the bound
 pub maker_fits :
     (slots : List (Option Assumption)) (slot : ℕ) (nodes : Nodes) (recorded : List Inferred) (dues : List Insertion) (work : List Pending) (agenda : List Arrival) (item : Pending)
     → Holds slots slot nodes recorded dues (item ∷ work) agenda → length slots ≡ SLOTS → IfSome item.inferred.maker (λ k. k < SLOTS)
 maker_fits slots slot nodes recorded dues work agenda item was wide =
     let It : RecordedInference = inference item.inferred in
-    let leads : Leads (stock slots) It.from It.maker It.to = was.are.leads It (was.waiting.inference It item.at (members item.env) (item, inl refl, refl, refl, refl)) in
+    let leads : Leads (stock slots) It.from It.maker It.to = was.propagating.are.leads It (was.propagating.waiting.inference It item.at (members item.env) (item, inl refl, refl, refl, refl)) in
     elim item.inferred.maker as (λ m. item.inferred.maker ≡ m → IfSome m (λ k. k < SLOTS)) [
       | None ↦ λ _. tt
       | Some k ↦ λ is. subst (λ (n : ℕ). k < n) wide (some_within slots k (maker_some (stock slots) It.from It.maker It.to leads k is))

@@ -10,7 +10,8 @@ use Rattle.circuit_model.specs.Settled.{IsSettled}
 use Rattle.environment_sets.specs.Sets.{Set}
 use Rattle.environment_sets.specs.Members.{members}
 use Rattle.environment_sets.specs.Lists.{IsIn, AreDistinct}
-use Rattle.propagation.specs.Propagating.{Target, Family, RecordedInference, IsReached, AgreeWithout, IsPropagating}
+use Rattle.propagation.specs.Propagating.{Target, Family, RecordedInference, IsReached, AreSourced, AgreeWithout, IsPropagating}
+use Rattle.propagation.proofs.Sources.{sourced_on}
 use Rattle.propagation.proofs.Whole as whole
 use Rattle.propagation.specs.Uncovered.{uncovered, TargetFits}
 use Rattle.label_engine.specs.declared.node.Node.{Node}
@@ -21,11 +22,11 @@ use Rattle.label_engine.specs.declared.update.Arrival.{Arrival}
 use Rattle.label_engine.specs.declared.update.Pending.{Pending}
 use Rattle.label_engine.specs.declared.update.Update.{Update}
 use Rattle.label_engine.specs.Nodes.{facts_of, label_in, KeptIn, reaches}
-use Rattle.label_engine.specs.Update.{Survives, other_fact, DueIn, IsAtHand, HasCome, Propagates, Holds, DueAlso, HasUnions, HasUnionsWith, HasMet, AreKeptAlike, IsPutThere, IsReady, IsAtRest, CarriesOn, AgreesWith}
+use Rattle.label_engine.specs.Update.{Survives, other_fact, DueIn, DueBy, IsAtHand, HasCome, HasComeBy, Propagates, Holds, DueAlso, HasUnions, HasUnionsWith, HasMet, AreKeptAlike, IsPutThere, IsReady, IsAtRest, CarriesOn, AgreesWith}
 use Rattle.assumption_slots.specs.Slots.{stock}
 use Rattle.inference_search.specs.Inferences.{RecordedIn}
 use Rattle.label_engine.proofs.Families.{same_family, same_test, label_in-met}
-use Rattle.label_engine.proofs.Holding.{holds_reached, holds_met, holds_put, agrees_put, fewer_uncovered, load_falls}
+use Rattle.label_engine.proofs.Holding.{holds_reached, holds_met, holds_put, sourced_put, agrees_put, fewer_uncovered, load_falls}
 
 pub IfOk-map : {A E : Type 0} {P Q : A → Type 0} → (r : Result A E) → ((x : A) → P x → Q x) → IfOk r P → IfOk r Q
 IfOk-map (Ok x) f h = f x h
@@ -143,7 +144,11 @@ module _ (slots : List (Option Assumption)) where
     ready_now_met f old new was at unmet same e = record {
       due_also =
           let P : Family → Type 0 = λ K. IsPropagating (stock slots) new.slot (IsIn (facts_of new.nodes.list.items)) K (RecordedIn new.recorded) (DueIn (due ∷ new.due.items)) (IsAtHand new.work.items) (HasCome new.agenda) in
-          subst P (sym (same_family old.nodes new.nodes same.labels same.nogoods)) (rw (e.slot, e.met, e.recorded, e.due, e.work, e.agenda) (holds_met slots old.slot old.nodes old.recorded due old.due.items old.work.items old.agenda was f unmet e.found e.needed e.are_found e.are_needed));
+          let Q : Family → Type 0 = λ K. AreSourced (stock slots) K (DueBy (due ∷ new.due.items)) (IsAtHand new.work.items) (HasCome new.agenda) (HasComeBy new.agenda) in
+          record {
+            propagating = subst P (sym (same_family old.nodes new.nodes same.labels same.nogoods)) (rw (e.slot, e.met, e.recorded, e.due, e.work, e.agenda) (holds_met slots old.slot old.nodes old.recorded due old.due.items old.work.items old.agenda was f unmet e.found e.needed e.are_found e.are_needed));
+            sourced = subst Q (sym (same_family old.nodes new.nodes same.labels same.nogoods)) (rw (e.due, e.work, e.agenda) was.sourced);
+          };
       were_met = λ g same_target. rw e.met (let both : Some f ≡ Some g = sym at ∙ same_target in let gf : f ≡ g = cc in subst (IsIn (facts_of old.nodes.list.items ++ f ∷ [])) gf (IsIn-right (facts_of old.nodes.list.items) (f ∷ []) f (inl refl)));
       labels_same = same.labels;
       nogoods_same = same.nogoods;
@@ -178,7 +183,10 @@ module _ (slots : List (Option Assumption)) where
 
         pub carries_put : TargetFits due.target → length new.agenda < 2 ^ 64 → CarriesOn slots old new
         carries_put fits few = record {
-          propagates = rw (put.slot, put.met, put.recorded, put.due_same, put.work_same, put.agenda) (holds_put slots mid.slot mid.nodes mid.recorded due mid.due.items mid.work.items mid.agenda ready.due_also out_mid ready.were_met new.nodes put.put);
+          propagates = record {
+            propagating = rw (put.slot, put.met, put.recorded, put.due_same, put.work_same, put.agenda) (holds_put slots mid.slot mid.nodes mid.recorded due mid.due.items mid.work.items mid.agenda ready.due_also out_mid ready.were_met new.nodes put.put);
+            sourced = rw (put.due_same, put.work_same, put.agenda) (sourced_put slots mid.slot mid.nodes mid.recorded due mid.due.items mid.work.items mid.agenda ready.due_also out_mid ready.were_met new.nodes put.put);
+          };
           agrees = agrees_on old mid new (agrees_same old mid (record { labels = ready.labels_same; nogoods = ready.nogoods_same })) ready.same_slot agrees_put_there;
           same_slot = put.slot ∙ ready.same_slot;
           no_more =
@@ -203,9 +211,14 @@ module _ (slots : List (Option Assumption)) where
     reordered :
         (dues dues' : List Insertion) (work work' : List Pending) (agenda agenda' : List Arrival) → ((d : Insertion) → IsIn dues d ↔ IsIn dues' d) → ((i : Pending) → IsIn work i ↔ IsIn work' i)
         → ((a : Arrival) → IsIn agenda a ↔ IsIn agenda' a) → Holds slots slot labels recorded dues work agenda → Holds slots slot labels recorded dues' work' agenda'
-    reordered dues dues' work work' agenda agenda' d w a was =
-        whole.reordered (stock slots) slot (IsIn (facts_of labels.list.items)) (KeptIn labels) (RecordedIn recorded) (DueIn dues) (IsAtHand work) (HasCome agenda) was (DueIn dues') (IsAtHand work') (HasCome agenda')
-        (same_dues dues dues' d) (same_items work work' w) (same_arrivals agenda agenda' a)
+    reordered dues dues' work work' agenda agenda' d w a was = record {
+      propagating =
+          whole.reordered (stock slots) slot (IsIn (facts_of labels.list.items)) (KeptIn labels) (RecordedIn recorded) (DueIn dues) (IsAtHand work) (HasCome agenda) was.propagating (DueIn dues') (IsAtHand work') (HasCome agenda')
+          (same_dues dues dues' d) (same_items work work' w) (same_arrivals agenda agenda' a);
+      sourced =
+          sourced_on (stock slots) (KeptIn labels) (KeptIn labels) (DueBy dues) (DueBy dues') (HasComeBy agenda) (HasComeBy agenda') (IsAtHand work) (IsAtHand work') (HasCome agenda) (HasCome agenda') was.sourced
+          (λ t E r. r) (λ k f E x. inl (x.0, (d x.0).1 x.1, x.2, x.3, x.4)) (λ j f E x. inl (x.0, (w x.0).1 x.1, x.2, x.3, x.4)) (λ f E x. inl (x.0, (a x.0).1 x.1, x.2, x.3)) (λ k f E x. inl (x.0, (a x.0).1 x.1, x.2, x.3, x.4));
+    }
 
     -- the last that is due is taken
     pub holds_popped :
@@ -227,7 +240,7 @@ module _ (slots : List (Option Assumption)) where
 
     -- nothing is due, nothing is at hand and nothing waits
     pub holds_ended : Holds slots slot labels recorded [] [] [] → IsSettled (stock slots) (λ f. KeptIn labels (Some f)) (KeptIn labels None)
-    holds_ended was = whole.ended (stock slots) slot (IsIn (facts_of labels.list.items)) (KeptIn labels) (RecordedIn recorded) (DueIn []) (IsAtHand []) (HasCome []) was (λ t E k. k.1) (λ i g m w. w.1) (λ g m c. c.1)
+    holds_ended was = whole.ended (stock slots) slot (IsIn (facts_of labels.list.items)) (KeptIn labels) (RecordedIn recorded) (DueIn []) (IsAtHand []) (HasCome []) was.propagating (λ t E k. k.1) (λ i g m w. w.1) (λ g m c. c.1)
 
 pub taken_item : {X : Type 0} (xs : List X) (i : ℕ) (x : X) → slice_get xs i ≡ Some x → (k : X) → IsIn xs k ↔ IsIn (x ∷ remove xs i) k
 taken_item {X} xs i x at k = (to, from)
@@ -256,8 +269,8 @@ pub at_rest :
 at_rest slots w was none_due none_at_hand nothing_waits once = record {
   up_to_date = record {
     settled = holds_ended slots w.slot w.nodes w.recorded (rw (← none_due, ← none_at_hand, ← nothing_waits) was);
-    are = was.are;
-    were_met = was.were_met;
+    are = was.propagating.are;
+    were_met = was.propagating.were_met;
     once = once;
   };
   none_due = none_due;

@@ -13,7 +13,7 @@ use Rattle.inference_search.specs.declared.inferred.Inferred.{Inferred}
 use Rattle.label_engine.specs.declared.keys.TheConstants.{SHELVES}
 use Rattle.label_engine.specs.declared.update.Pending.{Pending}
 use Rattle.label_engine.specs.Records.{key, has_key, lies_on, put_for, has_key_of, second_shelf, AreShelved, AreBegun, IsPutLast, AreUpTo}
-use Rattle.label_engine.specs.Update.{is_same_target, goes_from, item_at, ends_in, items_to, items_at}
+use Rattle.label_engine.specs.Update.{is_same_target, goes_from, item_at, is_next, items_to, items_at}
 use Rattle.label_engine.proofs.Labelled.{same_fact}
 
 -- filters
@@ -197,11 +197,11 @@ module _ (f : Fact) (list : List Inferred) (shelves : List (List Inferred)) (are
   near_only i h = let P : List Inferred → Type 0 = λ l. IsIn l i in (IsIn-filter (lies_on (key f)) list i (subst P (are.each (key f) s at) h)).0
 
 -- the same comes to hand from what is near
-pub items_near : (f : Fact) (e : Env) (near list : List Inferred) → filter (goes_from f) near ≡ filter (goes_from f) list → items_at f e near ≡ items_at f e list
-items_near f e near list same = ap₂ (λ (xs ys : List Pending). xs ++ ys) (kind false) (kind true) where
-  kind : (clash : Bool) → items_to clash f e near ≡ items_to clash f e list
+pub items_near : (passed : Option ℕ) (f : Fact) (e : Env) (near list : List Inferred) → filter (goes_from f) near ≡ filter (goes_from f) list → items_at passed f e near ≡ items_at passed f e list
+items_near passed f e near list same = ap₂ (λ (xs ys : List Pending). xs ++ ys) (kind false) (kind true) where
+  kind : (clash : Bool) → items_to passed clash f e near ≡ items_to passed clash f e list
   kind clash =
-      let q : Inferred → Bool = λ i. ends_in clash i.to in
+      let q : Inferred → Bool = is_next passed clash in
       ap (map (item_at f e)) (filter_both (goes_from f) q near ∙ (ap (filter q) same ∙ sym (filter_both (goes_from f) q list)))
 
 -- with those that pass a test alone

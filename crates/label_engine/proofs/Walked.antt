@@ -32,9 +32,9 @@ none_yet item nodes old = record { stays = λ d i. i; each = λ E h. absurd h; o
 
 -- the union with one environment more is due, or reached
 pub one_more :
-    (item : Pending) (nodes : Nodes) (envs : List Env) (env : Env) (old mid new : List Insertion) (d : Insertion)
-    → HasUnionsWith item nodes envs old mid → IsUnion item (members env) d → IsAddedOrReached nodes d mid new → HasUnionsWith item nodes (envs ++ env ∷ []) old new
-one_more item nodes envs env old mid new d was is (inl added) =
+    (item : Pending) (nodes : Nodes) (envs : List Env) (env : Env) (old mid new : List Insertion)
+    → HasUnionsWith item nodes envs old mid → IsAddedOrReached item nodes (members env) mid new → HasUnionsWith item nodes (envs ++ env ∷ []) old new
+one_more item nodes envs env old mid new was (inl (d, is, added)) =
     let P : List Insertion → Type 0 = λ l. HasUnionsWith item nodes (envs ++ env ∷ []) old l in
     subst P (sym added) (record {
       stays = λ x i. IsIn-left mid (d ∷ []) x (was.stays x i);
@@ -50,25 +50,17 @@ one_more item nodes envs env old mid new d was is (inl added) =
         ]
       ];
     })
-one_more item nodes envs env old mid new d was is (inr (same, reached)) =
+one_more item nodes envs env old mid new was (inr (same, reached)) =
     let P : List Insertion → Type 0 = λ l. HasUnionsWith item nodes (envs ++ env ∷ []) old l in
-    let Q : Target → Type 0 = λ t. IsReached (KeptIn nodes) t (members d.env) in
-    let R : Set ℕ → Type 0 = λ F. IsReached (KeptIn nodes) item.inferred.to F in
+    let R : Set ℕ → Type 0 = λ F. IsReached (KeptIn nodes) item.inferred.to (union_of item F) in
     subst P (sym same) (record {
       stays = was.stays;
       each = λ E h. elim (member_either envs env E h) [
         | inl before ↦ was.each E before
-        | inr at ↦ inr (subst R (is.joined ∙ ap (λ (F : Set ℕ). union_of item F) at) (subst Q is.target reached))
+        | inr at ↦ inr (subst R at reached)
       ];
       only = λ x i. elim (was.only x i) [ inl first ↦ inl first | inr r ↦ inr (r.0, member_front envs (env ∷ []) r.0 r.1, r.2) ];
     })
-
--- what begins the unions and an environment together are a union
-pub union_from : (item : Pending) (begun d : Insertion) (E : Set ℕ) → BeginsUnions item begun → d.target ≡ begun.target → members d.env ≡ members begun.env ∪ E → IsUnion item E d
-union_from item begun d E begins target joined = record {
-  target = target ∙ begins.target;
-  joined = joined ∙ ap (λ (F : Set ℕ). F ∪ E) begins.joined;
-}
 
 -- where what all unions have is reached, each of them is
 pub all_reached : (item : Pending) (nodes : Nodes) (envs : List Env) (old : List Insertion) (begun : Insertion) → BeginsUnions item begun → IsReached (KeptIn nodes) begun.target (members begun.env) → HasUnionsWith item nodes envs old old

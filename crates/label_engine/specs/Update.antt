@@ -7,11 +7,11 @@ use Rattle.circuit_model.specs.declared.model.Assumption.{Assumption}
 use Rattle.circuit_model.specs.Stock.{Stock}
 use Rattle.circuit_model.specs.Settled.{IsSettled}
 use Rattle.environment_sets.specs.declared.environment.Env.{Env}
-use Rattle.environment_sets.specs.Sets.{Set, ◌∪◌, no_elements, only}
+use Rattle.environment_sets.specs.Sets.{Set, ◌⊆◌, ◌∪◌, no_elements, only}
 use Rattle.environment_sets.specs.Members.{members, HasMember}
 use Rattle.environment_sets.specs.Lists.{IsIn, AreDistinct}
 use Rattle.environment_sets.specs.Families.{Drops}
-use Rattle.propagation.specs.Propagating.{Target, Family, RecordedInference, All, AreRecorded, IsPropagating, IsReached, AgreeWithout, IsPut}
+use Rattle.propagation.specs.Propagating.{Target, Family, RecordedInference, All, AreRecorded, IsLone, AreSourced, IsPropagating, IsReached, AgreeWithout, IsPut}
 use Rattle.propagation.specs.Uncovered.{uncovered}
 use Rattle.label_engine.specs.declared.node.Node.{Node}
 use Rattle.label_engine.specs.declared.node.Nodes.{Nodes}
@@ -75,6 +75,10 @@ IsNeededOrSaid recorded i old new = (new ≡ old ++ i ∷ []) ⊎ ((new ≡ old)
 abbrev pub DueIn : List Insertion → Family
 DueIn due t E = (d : Insertion) × IsIn due d × (d.target ≡ t) × (members d.env ≡ E)
 
+-- the environments that are to be put in at each fact, and have their source in the component at the slot
+abbrev pub DueBy : List Insertion → ℕ → Fact → Set ℕ → Type 0
+DueBy due k f E = (d : Insertion) × IsIn due d × (d.target ≡ Some f) × (d.source ≡ Some k) × (members d.env ≡ E)
+
 -- the inference is at hand with an environment of one of its facts
 abbrev pub IsAtHand : List Pending → RecordedInference → Fact → Set ℕ → Type 0
 IsAtHand work j f E = (p : Pending) × IsIn work p × (inference p.inferred ≡ j) × (p.at ≡ f) × (members p.env ≡ E)
@@ -83,9 +87,14 @@ IsAtHand work j f E = (p : Pending) × IsIn work p × (inference p.inferred ≡ 
 abbrev pub HasCome : List Arrival → Fact → Set ℕ → Type 0
 HasCome agenda f E = (a : Arrival) × IsIn agenda a × (a.fact ≡ f) × (members a.env ≡ E)
 
+-- the environment that came to the fact has its source in the component at the slot
+abbrev pub HasComeBy : List Arrival → ℕ → Fact → Set ℕ → Type 0
+HasComeBy agenda k f E = (a : Arrival) × IsIn agenda a × (a.fact ≡ f) × (a.source ≡ Some k) × (members a.env ≡ E)
+
 -- what holds while environments are to be put in, inferences are at hand, and environments that came wait
-abbrev pub Holds : List (Option Assumption) → ℕ → Nodes → List Inferred → List Insertion → List Pending → List Arrival → Type 0
-Holds slots slot nodes recorded due work agenda = IsPropagating (stock slots) slot (IsIn (facts_of nodes.list.items)) (KeptIn nodes) (RecordedIn recorded) (DueIn due) (IsAtHand work) (HasCome agenda)
+pub record Holds (slots : List (Option Assumption)) (slot : ℕ) (nodes : Nodes) (recorded : List Inferred) (due : List Insertion) (work : List Pending) (agenda : List Arrival) : Type 0 where
+  pub propagating : IsPropagating (stock slots) slot (IsIn (facts_of nodes.list.items)) (KeptIn nodes) (RecordedIn recorded) (DueIn due) (IsAtHand work) (HasCome agenda)
+  pub sourced : AreSourced (stock slots) (KeptIn nodes) (DueBy due) (IsAtHand work) (HasCome agenda) (HasComeBy agenda)
 
 -- it holds of the update
 abbrev pub Propagates : List (Option Assumption) → Update → Type 0
@@ -114,22 +123,40 @@ ends_in true (Some f) = false
 ends_in false None = false
 ends_in false (Some f) = true
 
--- the inference goes from the fact to a clash, or to a value
-abbrev pub goes_to : Bool → Fact → Inferred → Bool
-goes_to clash f i = ends_in clash i.to && goes_from f i
+-- the component at the slot makes it
+abbrev pub is_made_at : ℕ → Option ℕ → Bool
+is_made_at slot None = false
+is_made_at slot (Some k) = k == slot
 
--- each inference from the fact to a clash, or to a value, with the environment
-abbrev pub items_to : Bool → Fact → Env → List Inferred → List Pending
-items_to clash f e recorded = map (item_at f e) (filter (goes_to clash f) recorded)
+-- whether the inference is passed over: it is made at the slot, if there is one
+abbrev pub is_passed : Option ℕ → Inferred → Bool
+is_passed None i = false
+is_passed (Some slot) i = is_made_at slot i.maker
 
--- each inference that goes from the fact, with the environment: those to a clash last
-abbrev pub items_at : Fact → Env → List Inferred → List Pending
-items_at f e recorded = items_to false f e recorded ++ items_to true f e recorded
+-- the inference goes to a clash, or to a value, and is not passed over
+abbrev pub is_next : Option ℕ → Bool → Inferred → Bool
+is_next passed clash i = ends_in clash i.to && not (is_passed passed i)
 
--- the environment comes to the target, where that is a fact
-abbrev pub arrivals_at : Target → Env → List Arrival
-arrivals_at None e = []
-arrivals_at (Some f) e = record { fact = f; env = e } ∷ []
+-- the inference goes from the fact to a clash, or to a value, and is not passed over
+abbrev pub goes_to : Option ℕ → Bool → Fact → Inferred → Bool
+goes_to passed clash f i = is_next passed clash i && goes_from f i
+
+-- each inference from the fact to a clash, or to a value, that is not passed over, with the environment
+abbrev pub items_to : Option ℕ → Bool → Fact → Env → List Inferred → List Pending
+items_to passed clash f e recorded = map (item_at f e) (filter (goes_to passed clash f) recorded)
+
+-- each inference that goes from the fact and is not passed over, with the environment: those to a clash last
+abbrev pub items_at : Option ℕ → Fact → Env → List Inferred → List Pending
+items_at passed f e recorded = items_to passed false f e recorded ++ items_to passed true f e recorded
+
+-- what is passed over where an environment with the source is brought in: the source, where its component is one instance
+abbrev pub IsPassed : List (Option Assumption) → Option ℕ → ℕ → Type 0
+IsPassed slots source k = (source ≡ Some k) × IsLone (stock slots) k
+
+-- the environment comes to the target, where that is a fact, with its source
+abbrev pub arrivals_at : Target → Env → Option ℕ → List Arrival
+arrivals_at None e source = []
+arrivals_at (Some f) e source = record { fact = f; env = e; source = source } ∷ []
 
 -- one of the facts that the inference goes from, if it goes from any
 abbrev pub some_fact : Inferred → Option Fact
@@ -141,7 +168,7 @@ goes_from_none i = is_none (some_fact i)
 
 -- the environment, at what the inference leads to
 abbrev pub due_with : Env → Inferred → Insertion
-due_with e i = record { target = i.to; env = e }
+due_with e i = record { target = i.to; env = e; source = None }
 
 -- the inference with each environment of the fact's label
 abbrev pub items_with : List Node → Inferred → Option Fact → List Pending
@@ -166,10 +193,17 @@ made_by (Some k) = only k
 abbrev pub union_of : Pending → Set ℕ → Set ℕ
 union_of item E = (members item.env ∪ made_by item.inferred.maker) ∪ E
 
+-- a source is the item's maker, and then what is due is more than the item's environment, and more than the set
+pub record IsSourceOf (item : Pending) (E U : Set ℕ) (k : ℕ) : Type 0 where
+  pub maker : item.inferred.maker ≡ Some k
+  pub more : U ⊆ members item.env → ⊥
+  pub more_than_other : U ⊆ E → ⊥
+
 -- what is due is the item's union with a set, at what the inference leads to
 pub record IsUnion (item : Pending) (E : Set ℕ) (d : Insertion) : Type 0 where
   pub target : d.target ≡ item.inferred.to
   pub joined : members d.env ≡ union_of item E
+  pub source : (k : ℕ) → d.source ≡ Some k → IsSourceOf item E (members d.env) k
 
 -- what all unions of the item have, at what the inference leads to
 pub record BeginsUnions (item : Pending) (d : Insertion) : Type 0 where
@@ -184,9 +218,9 @@ IsDueOrReached item nodes due E = ((d : Insertion) × IsIn due d × IsUnion item
 abbrev pub AreKeptAt : Nodes → Target → List Env → Type 0
 AreKeptAt nodes t envs = (E : Set ℕ) → HasMember envs E → KeptIn nodes t E
 
--- it is due too, or it is reached and what is due stays
-abbrev pub IsAddedOrReached : Nodes → Insertion → List Insertion → List Insertion → Type 0
-IsAddedOrReached nodes d old new = (new ≡ old ++ d ∷ []) ⊎ ((new ≡ old) × IsReached (KeptIn nodes) d.target (members d.env))
+-- the item's union with the set is due too, or it is reached and what is due stays
+abbrev pub IsAddedOrReached : Pending → Nodes → Set ℕ → List Insertion → List Insertion → Type 0
+IsAddedOrReached item nodes E old new = ((d : Insertion) × IsUnion item E d × (new ≡ old ++ d ∷ [])) ⊎ ((new ≡ old) × IsReached (KeptIn nodes) item.inferred.to (union_of item E))
 
 -- what was due still is; a union for each environment of the label is due too, or reached; and nothing else is due
 pub record HasUnionsWith (item : Pending) (nodes : Nodes) (label : List Env) (old new : List Insertion) : Type 0 where
@@ -260,7 +294,7 @@ pub record Survives (old new : Update) : Type 0 where
 pub record IsPutThere (due : Insertion) (old new : Update) : Type 0 where
   pub put : IsPut due.target (members due.env) (KeptIn old.nodes) (KeptIn new.nodes)
   pub met : facts_of new.nodes.list.items ≡ facts_of old.nodes.list.items
-  pub agenda : new.agenda ≡ old.agenda ++ arrivals_at due.target due.env
+  pub agenda : new.agenda ≡ old.agenda ++ arrivals_at due.target due.env due.source
   pub recorded : new.recorded ≡ old.recorded
   pub due_same : new.due.items ≡ old.due.items
   pub work_same : new.work.items ≡ old.work.items
@@ -293,11 +327,6 @@ pub record IsTakenBack (slots : List (Option Assumption)) (old new : Update) : T
   pub at_rest : IsAtRest (before slots new.slot) new
   pub same : (t : Target) (E : Set ℕ) → KeptIn old.nodes t E ↔ KeptIn new.nodes t E
   pub same_slot : new.slot ≡ old.slot
-
--- the component at the slot makes it
-abbrev pub is_made_at : ℕ → Option ℕ → Bool
-is_made_at slot None = false
-is_made_at slot (Some k) = k == slot
 
 -- there is no fact, or it has a node
 abbrev pub is_met_or_none : List Node → Option Fact → Bool

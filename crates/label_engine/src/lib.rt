@@ -8,6 +8,7 @@ mod nodes;
 mod questions;
 mod recording;
 mod records;
+mod sources;
 mod update;
 
 pub use engine::{Engine, Stop};

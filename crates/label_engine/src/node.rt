@@ -25,9 +25,11 @@ pub struct Nodes {
     ghost once: { (i j : ℕ) (f : Fact) → i < j → slice_get (map (λ n. n.fact) list.items) i ≡ Some f → slice_get (map (λ n. n.fact) list.items) j ≡ Some f → ⊥ },
 }
 
-/// An environment that is to be put in at a fact, or as a nogood.
+/// An environment that is to be put in at a fact, or as a nogood. Its source is the slot of the component that led from
+/// smaller environments to it, where that is known.
 #[derive(Clone, Copy)]
 pub struct Insertion {
     pub target: Option<Fact>,
     pub env: Env,
+    pub source: Option<u16>,
 }

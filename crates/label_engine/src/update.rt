@@ -12,12 +12,13 @@ ghost use Rattle.circuit_model.specs.declared.model.Assumption.TheVariants.{Part
 ghost use Rattle.propagation.specs.Uncovered.{Fits, TargetFits};
 ghost use Rattle.propagation.specs.Propagating.{IsReached};
 ghost use Rattle.label_engine.specs.Nodes.{facts_of, KeptIn, IsMet, EachDrops};
-ghost use Rattle.label_engine.specs.Update.{item_at, items_at, items_to, ends_in, some_fact, goes_from_none, due_with, items_with, items_from, other_fact, made_by, HasUnions, HasUnionsWith, HasMet, AreKeptAlike, IsPutThere, Propagates, DueAlso, IsAtHandAlso, HasComeAlso, CarriesOn, IsReady, BeginsUnions, AreKeptAt, IsAddedOrReached, Survives, before, IsAtRest, IsTakenBack, HasForgotten};
+ghost use Rattle.label_engine.specs.Update.{item_at, items_at, items_to, is_next, ends_in, some_fact, goes_from_none, due_with, items_with, items_from, other_fact, made_by, HasUnions, HasUnionsWith, HasMet, AreKeptAlike, IsPutThere, Propagates, DueAlso, IsAtHandAlso, HasComeAlso, CarriesOn, IsReady, BeginsUnions, IsSourceOf, IsUnion, union_of, AreKeptAt, IsAddedOrReached, Survives, before, IsAtRest, IsTakenBack, HasForgotten};
 ghost use Rattle.assumption_slots.specs.Slots.{stock};
 
 use crate::node::{Insertion, Nodes};
 use crate::recording::{is_target, needed_of, record_all, uses};
 use crate::records::Records;
+use crate::sources::{is_passed, passed_for};
 use assumption_slots::Slots;
 use circuit_model::{Assumption, Fact};
 use environment_sets::Env;
@@ -26,11 +27,12 @@ use label_algebra::Label;
 use propagation_agenda::{Agenda, Picker};
 use std::alloc::{AllocError, Global};
 
-/// An environment that came to the label of a fact, and waits for the inferences from there.
+/// An environment that came to the label of a fact, with its source, and waits for the inferences from there.
 #[derive(Clone, Copy)]
 pub struct Arrival {
     pub fact: Fact,
     pub env: Env,
+    pub source: Option<u16>,
 }
 
 /// An inference that is at hand, with an environment of one of its facts.
@@ -67,41 +69,49 @@ fn ends_in(inferred: &Inferred, clash: bool) -> bool
     inferred.to.is_none() == clash
 }
 
-// Each of the inferences from the fact to a clash, or each to a value, is at hand with the environment.
+// Whether the inference leads to a clash, or to a value, and is not passed over.
+fn is_next(inferred: &Inferred, passed: Option<u16>, clash: bool) -> bool
+    ensures { result ≡ is_next passed clash inferred.now }
+{
+    ends_in(inferred, clash) && !is_passed(inferred, passed)
+}
+
+// Each of the inferences from the fact to a clash, or each to a value, is at hand with the environment that came, if it is not
+// passed over.
 fn bring_uses(
     work: &mut Vec<Pending>,
     recorded: &[Inferred],
-    fact: &Fact,
-    env: &Env,
+    arrival: &Arrival,
+    passed: Option<u16>,
     clash: bool,
 ) -> Result<(), AllocError>
-    ensures { IfOk result (λ _. work.new.items ≡ work.old.items ++ items_to clash fact.now env.now recorded.now) }
+    ensures { IfOk result (λ _. work.new.items ≡ work.old.items ++ items_to passed clash arrival.now.fact arrival.now.env recorded.now) }
 {
     for inferred in recorded {
-        if ends_in(inferred, clash) && uses(inferred, fact) {
+        if is_next(inferred, passed, clash) && uses(inferred, &arrival.fact) {
             work.push(Pending {
                 inferred: *inferred,
-                at: *fact,
-                env: *env,
+                at: arrival.fact,
+                env: arrival.env,
             })?;
         }
     }
     Ok(())
 }
 
-// Each of the inferences from the fact is at hand with the environment. Clashes come last, and what came last is carried out
-// first: so a clash is found before all that would be in vain after it.
+// Each of the inferences from the fact that is not passed over is at hand with the environment that came. Clashes come last,
+// and what came last is carried out first: so a clash is found before all that would be in vain after it.
 fn bring_all(
     work: &mut Vec<Pending>,
     recorded: &Records,
-    fact: &Fact,
-    env: &Env,
+    arrival: &Arrival,
+    passed: Option<u16>,
 ) -> Result<(), AllocError>
-    ensures { IfOk result (λ _. work.new.items ≡ work.old.items ++ items_at fact.now env.now recorded.now) }
+    ensures { IfOk result (λ _. work.new.items ≡ work.old.items ++ items_at passed arrival.now.fact arrival.now.env recorded.now) }
 {
-    let near = recorded.near(fact);
-    bring_uses(work, near, fact, env, false)?;
-    bring_uses(work, near, fact, env, true)
+    let near = recorded.near(&arrival.fact);
+    bring_uses(work, near, arrival, passed, false)?;
+    bring_uses(work, near, arrival, passed, true)
 }
 
 // What the inferences from no fact lead to is due, with the environment.
@@ -113,6 +123,7 @@ fn due_from_none(due: &mut Vec<Insertion>, found: &[Inferred], env: &Env) -> Res
             due.push(Insertion {
                 target: inferred.to,
                 env: *env,
+                source: None,
             })?;
         }
     }
@@ -206,6 +217,7 @@ fn begun_union(item: &Pending) -> Insertion
     Insertion {
         target: item.inferred.to,
         env: item.env.union(made_by(item.inferred.maker)),
+        source: None,
     }
 }
 
@@ -217,6 +229,29 @@ fn union_with(begun: &Insertion, other: Env) -> Insertion
     Insertion {
         target: begun.target,
         env: begun.env.union(other),
+        source: None,
+    }
+}
+
+// The item's maker, where the union is more than the item's environment and more than the other one.
+fn source_of(item: &Pending, other: &Env, union: &Env) -> Option<u16>
+    ensures { IfSome result (IsSourceOf item.now (members other.now) (members union.now)) }
+{
+    if union.is_subset(&item.env) || union.is_subset(other) {
+        return None;
+    }
+    item.inferred.maker
+}
+
+// The union of the item with another environment, with its source.
+fn sourced_union(item: &Pending, other: &Env, union: Insertion) -> Insertion
+    requires target { union.target ≡ item.now.inferred.to }
+    requires joined { members union.env ≡ union_of item.now (members other.now) }
+    ensures { IsUnion item.now (members other.now) result }
+{
+    Insertion {
+        source: source_of(item, other, &union.env),
+        ..union
     }
 }
 
@@ -285,21 +320,25 @@ fn is_covered(
     }
 }
 
-// The union is due, where it is not reached.
+// The item's union with the environment is due, where it is not reached.
 fn add_union(
     due: &mut Vec<Insertion>,
     nodes: &Nodes,
     label: Option<&Label>,
-    union: Insertion,
+    item: &Pending,
+    begun: &Insertion,
+    other: &Env,
     last: &mut LastCovers,
 ) -> Result<(), AllocError>
-    requires { ForSome label (λ l. AreKeptAt nodes.now union.target l.now) }
-    ensures { IfOk result (λ _. IsAddedOrReached nodes.now union due.old.items due.new.items) }
+    requires begun { BeginsUnions item.now begun.now }
+    requires label { ForSome label (λ l. AreKeptAt nodes.now begun.now.target l.now) }
+    ensures { IfOk result (λ _. IsAddedOrReached item.now nodes.now (members other.now) due.old.items due.new.items) }
 {
+    let union = union_with(begun, *other);
     if is_covered(nodes, label, &union, last) {
         return Ok(());
     }
-    due.push(union)?;
+    due.push(sourced_union(item, other, union))?;
     Ok(())
 }
 
@@ -327,8 +366,7 @@ fn add_unions_with(
         }
     }
     for env in label.members() {
-        let union = union_with(&begun, *env);
-        add_union(due, nodes, target, union, &mut last)?;
+        add_union(due, nodes, target, item, &begun, env, &mut last)?;
     }
     Ok(())
 }
@@ -340,7 +378,9 @@ fn add_unions(due: &mut Vec<Insertion>, nodes: &Nodes, item: &Pending) -> Result
 {
     match other_of(&item.inferred, &item.at) {
         None => {
-            due.push(union_with(&begun_union(item), Env::empty()))?;
+            let none = Env::empty();
+            let union = union_with(&begun_union(item), none);
+            due.push(sourced_union(item, &none, union))?;
             Ok(())
         }
         Some(fact) => match nodes.label(&fact) {
@@ -379,6 +419,7 @@ impl Update {
             self.agenda.push(Arrival {
                 fact: *fact,
                 env: due.env,
+                source: due.source,
             })?;
         }
         self.nodes.put(due)
@@ -464,7 +505,7 @@ impl Update {
         Ok(())
     }
 
-    // An environment that came is carried out with each inference from its fact.
+    // An environment that came is carried out with each inference from its fact, but for those that lead back to its source.
     fn bring_in(
         &mut self,
         alloc: Global,
@@ -478,7 +519,9 @@ impl Update {
         ensures none_at_hand { IfOk result (λ _. self.new.work.items ≡ []) }
         ensures survives { Survives self.old self.new }
     {
-        bring_all(&mut self.work, &self.recorded, &arrival.fact, &arrival.env)?;
+        slots_fit(slots);
+        let passed = passed_for(slots, arrival.source);
+        bring_all(&mut self.work, &self.recorded, arrival, passed)?;
         self.work_off(alloc, slots)
     }
 
@@ -515,6 +558,7 @@ impl Update {
         let first = Insertion {
             target: Some(*fact),
             env: made_by(Some(self.slot)),
+            source: None,
         };
         self.due.push(first)?;
         Ok(())

@@ -124,7 +124,7 @@ module _
           | inl old ↦ inl (inl (choice_reached S kept settled j ms E (are.leads j old) chosen maker))
           | inr made ↦ elim (choices j ms E r made chosen maker) [
             | inl at_once ↦ inl at_once
-            | inr w ↦ inr (SomeWaits-map (at_hand j) (Waits recorded' at_hand NoArrival j) j.from ms (λ f m h. inl h) w)
+            | inr w ↦ inr (inl (SomeWaits-map (at_hand j) (Waits recorded' at_hand NoArrival j) j.from ms (λ f m h. inl h) w))
           ]
         ];
       };

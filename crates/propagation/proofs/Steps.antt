@@ -1,11 +1,12 @@
 -- What each step of bringing labels up to date keeps.
-use Rattle.std.proofs.Common.{◌≡◌, ℕ, ◌⊎◌, inl, inr, IsTrue, true≢false, refl, sym, ap, subst, ◌∙◌, List, [], ◌∷◌, Some, None}
+use Rattle.std.proofs.Common.{◌≡◌, ℕ, ◌⊎◌, inl, inr, IsTrue, true≢false, refl, sym, ap, subst, ◌∙◌, List, [], ◌∷◌, Option, Some, None}
 use Rattle.circuit_model.specs.declared.model.Fact.{Fact}
 use Rattle.environment_sets.specs.Lists.{IsIn}
 use Rattle.environment_sets.specs.Sets.{Set, ◌⊆◌}
 use Rattle.circuit_model.specs.Stock.{Stock, IsEnvironment}
 use Rattle.environment_sets.specs.Families.{IsAntichain}
-use Rattle.propagation.specs.Propagating.{Target, Family, RecordedInference, HasAt, HasMaker, AreChosen, SomeWaits, IsReached, IsDue, IsSound, AreCarriedOut, AgreeWithout, IsPut}
+use Rattle.circuit_model.proofs.Monotony.{IsForced-map}
+use Rattle.propagation.specs.Propagating.{Target, Family, RecordedInference, HasAt, HasMaker, AreChosen, SomeWaits, IsReached, IsDue, IsSourced, LeadsBack, IsPassedOver, IsSound, AreCarriedOut, AgreeWithout, IsPut}
 
 -- a set is put in
 module _ (t : Target) (U : Set ℕ) (old new : Family) (put : IsPut t U old new) where
@@ -105,22 +106,62 @@ SomeWaits-map v w (f ∷ fs) [] g h = absurd h
 SomeWaits-map v w (f ∷ fs) (m ∷ ms) g (inl h) = inl (g f m h)
 SomeWaits-map v w (f ∷ fs) (m ∷ ms) g (inr h) = inr (SomeWaits-map v w fs ms g h)
 
+-- what waits is one thing or the other
+parted : (v w x : Fact → Set ℕ → Type 0) (fs : List Fact) (ms : List (Set ℕ)) → ((f : Fact) (m : Set ℕ) → v f m → w f m ⊎ x f m) → SomeWaits v fs ms → SomeWaits w fs ms ⊎ SomeWaits x fs ms
+parted v w x [] ms g h = absurd h
+parted v w x (f ∷ fs) [] g h = absurd h
+parted v w x (f ∷ fs) (m ∷ ms) g (inl h) = elim (g f m h) [ inl a ↦ inl (inl a) | inr b ↦ inr (inl b) ]
+parted v w x (f ∷ fs) (m ∷ ms) g (inr h) = elim (parted v w x fs ms g h) [ inl a ↦ inl (inr a) | inr b ↦ inr (inr b) ]
+
+-- what has its source still has it where more is reached
+module _ (S : Stock ℕ) (kept kept' : Family) (stays : (t : Target) (E : Set ℕ) → IsReached kept t E → IsReached kept' t E) where
+  pub IsSourced-map : (slot : ℕ) (f : Fact) (m : Set ℕ) → IsSourced S kept slot f m → IsSourced S kept' slot f m
+  IsSourced-map slot f m s = IsForced-map (λ a x. x) (λ g r. (r.0, r.1, r.2, stays (Some g) r.0 r.3)) s
+
+  pub LeadsBack-map : (maker : Option ℕ) (fs : List Fact) (ms : List (Set ℕ)) → LeadsBack S kept maker fs ms → LeadsBack S kept' maker fs ms
+  LeadsBack-map maker fs ms b = record { slot = b.slot; made = b.made; lone = b.lone; some_sourced = SomeWaits-map (IsSourced S kept b.slot) (IsSourced S kept' b.slot) fs ms (IsSourced-map b.slot) b.some_sourced }
+
 -- a set was put in: what is kept anew waits at each inference that goes from it
 module _ (S : Stock ℕ) (kept kept' : Family) (recorded : RecordedInference → Type 0) (pending pending' : Family) (waits waits' : RecordedInference → Fact → Set ℕ → Type 0) where
   pub carried_on :
       AreCarriedOut S kept recorded pending waits
+      → ((t : Target) (E : Set ℕ) → IsReached kept t E → IsReached kept' t E)
       → ((t : Target) (E : Set ℕ) → IsDue kept pending t E → IsDue kept' pending' t E)
       → ((j : RecordedInference) (f : Fact) (m : Set ℕ) → waits j f m → waits' j f m)
       → ((j : RecordedInference) (f : Fact) (m : Set ℕ) → recorded j → IsIn j.from f → kept' (Some f) m → kept (Some f) m ⊎ waits' j f m)
       → AreCarriedOut S kept' recorded pending' waits'
-  carried_on c on more new = record {
+  carried_on c stays on more new = record {
     readings = λ k f E named inside. on (Some f) E (c.readings k f E named inside);
     inferences = λ j ms E r chosen maker. elim (choice_before kept kept' (waits' j) E j.from ms (λ f m i. new j f m r i) chosen) [
       | inl before ↦ elim (c.inferences j ms E r before maker) [
         | inl due ↦ inl (on j.to E due)
-        | inr w ↦ inr (SomeWaits-map (waits j) (waits' j) j.from ms (more j) w)
+        | inr (inl w) ↦ inr (inl (SomeWaits-map (waits j) (waits' j) j.from ms (more j) w))
+        | inr (inr back) ↦ inr (inr (LeadsBack-map S kept kept' stays j.maker j.from ms back))
       ]
-      | inr w ↦ inr w
+      | inr w ↦ inr (inl w)
+    ];
+  }
+
+  -- what is passed over
+  back_of : (maker : Option ℕ) (fs : List Fact) (ms : List (Set ℕ)) → SomeWaits (IsPassedOver S kept maker) fs ms → LeadsBack S kept maker fs ms
+  back_of maker [] ms h = absurd h
+  back_of maker (f ∷ fs) [] h = absurd h
+  back_of maker (f ∷ fs) (m ∷ ms) (inl h) = record { slot = h.slot; made = h.made; lone = h.lone; some_sourced = inl h.sourced }
+  back_of maker (f ∷ fs) (m ∷ ms) (inr h) = let r : LeadsBack S kept maker fs ms = back_of maker fs ms h in record { slot = r.slot; made = r.made; lone = r.lone; some_sourced = inr r.some_sourced }
+
+  -- what waited waits, or it is passed over
+  pub carried_past :
+      AreCarriedOut S kept recorded pending waits → ((j : RecordedInference) (f : Fact) (m : Set ℕ) → waits j f m → waits' j f m ⊎ IsPassedOver S kept j.maker f m)
+      → AreCarriedOut S kept recorded pending waits'
+  carried_past c past = record {
+    readings = c.readings;
+    inferences = λ j ms E r chosen maker. elim (c.inferences j ms E r chosen maker) [
+      | inl due ↦ inl due
+      | inr (inr back) ↦ inr (inr back)
+      | inr (inl w) ↦ elim (parted (waits j) (waits' j) (IsPassedOver S kept j.maker) j.from ms (past j) w) [
+        | inl still ↦ inr (inl still)
+        | inr passed ↦ inr (inr (back_of j.maker j.from ms passed))
+      ]
     ];
   }
 
@@ -135,8 +176,9 @@ module _ (S : Stock ℕ) (kept kept' : Family) (recorded : RecordedInference →
     readings = λ k f E named inside. on (Some f) E (c.readings k f E named inside);
     inferences = λ j ms E r are maker. elim (c.inferences j ms E r are maker) [
       | inl due ↦ inl (on j.to E due)
-      | inr w ↦ elim (split j j.from ms w) [
-        | inl still ↦ inr still
+      | inr (inr back) ↦ inr (inr back)
+      | inr (inl w) ↦ elim (split j j.from ms w) [
+        | inl still ↦ inr (inl still)
         | inr now ↦ inl (let P : RecordedInference → Type 0 = λ i. AreChosen kept E i.from ms → HasMaker i.maker E → SomeWaits (λ f m. (f ≡ at) × (m ≡ chosen)) i.from ms → IsDue kept pending' i.to E in subst P (sym now.0) (unions ms E) are maker now.1)
       ]
     ];
@@ -155,15 +197,16 @@ module _ (S : Stock ℕ) (kept : Family) (recorded recorded' : RecordedInference
       → ((j : RecordedInference) → recorded' j → recorded j ⊎ (j ≡ further))
       → ((t : Target) (E : Set ℕ) → IsDue kept pending t E → IsDue kept pending' t E)
       → ((j : RecordedInference) (f : Fact) (m : Set ℕ) → waits j f m → waits' j f m)
-      → ((ms : List (Set ℕ)) (E : Set ℕ) → AreChosen kept E further.from ms → HasMaker further.maker E → IsDue kept pending' further.to E ⊎ SomeWaits (waits' further) further.from ms)
+      → ((ms : List (Set ℕ)) (E : Set ℕ) → AreChosen kept E further.from ms → HasMaker further.maker E → IsDue kept pending' further.to E ⊎ (SomeWaits (waits' further) further.from ms ⊎ LeadsBack S kept further.maker further.from ms))
       → AreCarriedOut S kept recorded' pending' waits'
   carried_note further c one on more new = record {
     readings = λ k f E named inside. on (Some f) E (c.readings k f E named inside);
     inferences = λ j ms E r are maker. elim (one j r) [
       | inl before ↦ elim (c.inferences j ms E before are maker) [
         | inl due ↦ inl (on j.to E due)
-        | inr w ↦ inr (SomeWaits-map (waits j) (waits' j) j.from ms (more j) w)
+        | inr (inl w) ↦ inr (inl (SomeWaits-map (waits j) (waits' j) j.from ms (more j) w))
+        | inr (inr back) ↦ inr (inr back)
       ]
-      | inr e ↦ let P : RecordedInference → Type 0 = λ i. AreChosen kept E i.from ms → HasMaker i.maker E → IsDue kept pending' i.to E ⊎ SomeWaits (waits' i) i.from ms in subst P (sym e) (new ms E) are maker
+      | inr e ↦ let P : RecordedInference → Type 0 = λ i. AreChosen kept E i.from ms → HasMaker i.maker E → IsDue kept pending' i.to E ⊎ (SomeWaits (waits' i) i.from ms ⊎ LeadsBack S kept i.maker i.from ms) in subst P (sym e) (new ms E) are maker
     ];
   }

@@ -5,8 +5,8 @@ use Rattle.environment_sets.specs.Lists.{IsIn}
 use Rattle.environment_sets.specs.Sets.{Set, ◌⊆◌}
 use Rattle.circuit_model.specs.Stock.{Stock, IsEnvironment, Has}
 use Rattle.circuit_model.specs.Settled.{IsSettled}
-use Rattle.propagation.specs.Propagating.{Target, Family, RecordedInference, HasAt, HasMaker, AreChosen, SomeWaits, IsReached, IsDue, All, AreRecorded, AreCarriedOut, IsPendingSound, IsWaitingSound, Waits, HaveComeSoundly, AgreeWithout, IsPut, IsPropagating}
-use Rattle.propagation.proofs.Steps.{reached_stays, reached_there, put_sound, put_agrees, SomeWaits-map, carried_on, carried_pick}
+use Rattle.propagation.specs.Propagating.{Target, Family, RecordedInference, HasAt, HasMaker, AreChosen, SomeWaits, IsReached, IsDue, All, AreRecorded, IsPendingSound, Waits, IsPassedOver, AgreeWithout, IsPut, IsPropagating}
+use Rattle.propagation.proofs.Steps.{reached_stays, reached_there, put_sound, put_agrees, SomeWaits-map, carried_on, carried_past, carried_pick}
 use Rattle.propagation.proofs.Entry.{has_slot}
 use Rattle.propagation.proofs.Ends as ends
 
@@ -40,7 +40,7 @@ module _
         before = was.before;
         are = was.are;
         were_met = was.were_met;
-        carried = carried_on S kept kept recorded pending pending' Now Now was.carried (still_due kept (λ s E x. x) (λ E within. larger E within r)) (λ j f m w. w) (λ j f m r i k. inl k);
+        carried = carried_on S kept kept recorded pending pending' Now Now was.carried (λ s E x. x) (still_due kept (λ s E x. x) (λ E within. larger E within r)) (λ j f m w. w) (λ j f m r i k. inl k);
         due = due_fewer;
         waiting = was.waiting;
         arrivals = was.arrivals;
@@ -82,7 +82,7 @@ module _
             before = λ s E without h. reached_stays t U kept kept' put s E (was.before s E without h);
             are = was.are;
             were_met = λ f E k. elim (put.only (Some f) E k) [ inl e ↦ target_met f e.0 | inr o ↦ was.were_met f E o.0 ];
-            carried = carried_on S kept kept' recorded pending pending' Now (Waits recorded at_hand came') was.carried on widen anew;
+            carried = carried_on S kept kept' recorded pending pending' Now (Waits recorded at_hand came') was.carried (reached_stays t U kept kept' put) on widen anew;
             due = due_fewer;
             waiting = was.waiting;
             arrivals = record {
@@ -121,21 +121,24 @@ module _
           arrivals = was.arrivals;
         }
 
-    -- a set that came is taken: each recorded inference from its fact is at hand with it
+    -- a set that came is taken: each recorded inference from its fact is at hand with it, or is passed over
     module _
         (at_hand' : RecordedInference → Fact → Set ℕ → Type 0) (came' : Fact → Set ℕ → Type 0) (f : Fact) (U : Set ℕ) (there : came f U)
         (left : (g : Fact) (m : Set ℕ) → came g m → came' g m ⊎ ((g ≡ f) × (m ≡ U)))
         (fewer : (g : Fact) (m : Set ℕ) → came' g m → came g m)
         (more : (j : RecordedInference) (g : Fact) (m : Set ℕ) → at_hand j g m → at_hand' j g m)
-        (item : (j : RecordedInference) → recorded j → IsIn j.from f → at_hand' j f U)
+        (item : (j : RecordedInference) → recorded j → IsIn j.from f → at_hand' j f U ⊎ IsPassedOver S kept j.maker f U)
         (items : (j : RecordedInference) (g : Fact) (m : Set ℕ) → at_hand' j g m → at_hand j g m ⊎ (recorded j × IsIn j.from f × (g ≡ f) × (m ≡ U)))
       where
-        at_either : (j : RecordedInference) (g : Fact) (m : Set ℕ) → Now j g m → Waits recorded at_hand' came' j g m
-        at_either j g m (inl w) = inl (more j g m w)
+        at_either : (j : RecordedInference) (g : Fact) (m : Set ℕ) → Now j g m → Waits recorded at_hand' came' j g m ⊎ IsPassedOver S kept j.maker g m
+        at_either j g m (inl w) = inl (inl (more j g m w))
         at_either j g m (inr w) =
             elim (left g m w.2) [
-              | inl still ↦ inr (w.0, w.1, still)
-              | inr e ↦ inl (let P : Fact → Type 0 = λ h. at_hand' j h m in subst P (sym e.0) (subst (at_hand' j f) (sym e.1) (item j w.0 (subst (IsIn j.from) e.0 w.1))))
+              | inl still ↦ inl (inr (w.0, w.1, still))
+              | inr e ↦
+                  let P : Fact → Type 0 = λ h. Waits recorded at_hand' came' j h m ⊎ IsPassedOver S kept j.maker h m in
+                  let Q : Set ℕ → Type 0 = λ n. Waits recorded at_hand' came' j f n ⊎ IsPassedOver S kept j.maker f n in
+                  subst P (sym e.0) (subst Q (sym e.1) (elim (item j w.0 (subst (IsIn j.from) e.0 w.1)) [ inl now ↦ inl (inl now) | inr past ↦ inr past ]))
             ]
 
         pub brought : IsPropagating S slot met kept recorded pending at_hand' came'
@@ -144,7 +147,7 @@ module _
           before = was.before;
           are = was.are;
           were_met = was.were_met;
-          carried = carried_on S kept kept recorded pending pending Now (Waits recorded at_hand' came') was.carried (λ t E d. d) at_either (λ j g m r i k. inl k);
+          carried = carried_past S kept kept recorded pending pending Now (Waits recorded at_hand' came') was.carried at_either;
           due = was.due;
           waiting = record {
             inference = λ j g m w. elim (items j g m w) [ inl o ↦ was.waiting.inference j g m o | inr n ↦ n.0 ];
@@ -185,7 +188,8 @@ module _
             inferences = λ j ms E r chosen maker. elim (new j r) [
               | inl r0 ↦ elim (was.carried.inferences j ms E r0 chosen maker) [
                 | inl at_once ↦ inl at_once
-                | inr w ↦ inr (SomeWaits-map (Now j) (Waits recorded' at_hand came j) j.from ms (still_waits j) w)
+                | inr (inl w) ↦ inr (inl (SomeWaits-map (Now j) (Waits recorded' at_hand came j) j.from ms (still_waits j) w))
+                | inr (inr back) ↦ inr (inr back)
               ]
               | inr i ↦ absurd (none_chosen E j.from ms i chosen)
             ];
@@ -210,7 +214,7 @@ module _
       before = was.before;
       are = was.are;
       were_met = was.were_met;
-      carried = carried_on S kept kept recorded pending pending' Now (Waits recorded at_hand' came') was.carried (λ t E d. elim d [ inl r ↦ inl r | inr p ↦ inr (p.0, (dues t p.0).0 p.1, p.2) ]) alike (λ j f m r i k. inl k);
+      carried = carried_on S kept kept recorded pending pending' Now (Waits recorded at_hand' came') was.carried (λ t E x. x) (λ t E d. elim d [ inl r ↦ inl r | inr p ↦ inr (p.0, (dues t p.0).0 p.1, p.2) ]) alike (λ j f m r i k. inl k);
       due = record { environments = λ t E p. was.due.environments t E ((dues t E).1 p); sound = λ t E p. was.due.sound t E ((dues t E).1 p) };
       waiting = record {
         inference = λ j f m w. was.waiting.inference j f m ((items j f m).1 w);

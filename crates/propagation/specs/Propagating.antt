@@ -1,14 +1,15 @@
 -- What holds while labels are brought up to date.
-use Rattle.std.specs.Prelude.{◌≡◌, ◌↔◌, ℕ, ◌⊎◌, IsTrue, IsFalse, List, [], ◌∷◌, Option, Some, None, slice_get}
+use Rattle.std.specs.Prelude.{◌≡◌, ◌↔◌, ℕ, ◌<◌, ◌^◌, ◌⊎◌, IsTrue, IsFalse, List, [], ◌∷◌, Option, Some, None, IsSome, slice_get}
 use Rattle.circuit_model.specs.declared.model.Cell.{Cell}
 use Rattle.circuit_model.specs.declared.model.Fact.{Fact}
 use Rattle.circuit_model.specs.declared.model.Instance.{Instance}
 use Rattle.circuit_model.specs.declared.model.Assumption.{Assumption}
 use Rattle.circuit_model.specs.declared.model.Assumption.TheVariants.{Part, Reading}
-use Rattle.circuit_model.specs.Inference.{Forces, Refutes}
+use Rattle.circuit_model.specs.Inference.{ports_of, Forces, Refutes}
 use Rattle.circuit_model.specs.Closure.{fact, AreHeld, IsForced, IsRefuted, AreTwoWords}
 use Rattle.environment_sets.specs.Lists.{IsIn}
-use Rattle.environment_sets.specs.Sets.{Set, ◌⊆◌}
+use Rattle.environment_sets.specs.declared.environment.TheConstants.{SLOTS}
+use Rattle.environment_sets.specs.Sets.{Set, ◌⊆◌, size_below}
 use Rattle.circuit_model.specs.Stock.{Stock, IsEnvironment, Has, IsRefutedBy}
 use Rattle.environment_sets.specs.Families.{IsCovered, IsAntichain}
 
@@ -69,6 +70,29 @@ IsReached kept t E = IsCovered (kept t) E ⊎ IsCovered (kept None) E
 abbrev pub IsDue : Family → Family → Target → Set ℕ → Type 0
 IsDue kept pending t E = IsReached kept t E ⊎ IsCovered (pending t) E
 
+-- the fact is reached under a proper subset of E
+abbrev pub IsReachedUnderLess : Family → Set ℕ → Fact → Type 0
+IsReachedUnderLess kept E f = (G : Set ℕ) × (G ⊆ E) × (size_below SLOTS G < size_below SLOTS E) × IsReached kept (Some f) G
+
+-- the component at the slot forces the fact from words that are reached under less than E
+abbrev pub IsSourced : Stock ℕ → Family → ℕ → Fact → Set ℕ → Type 0
+IsSourced S kept slot f E = IsForced (IsMaker S (Some slot)) (IsReachedUnderLess kept E) f
+
+-- the component at the slot is one instance, with a cell of its own at each port, and with more than one word at each width
+pub record IsLone (S : Stock ℕ) (slot : ℕ) : Type 0 where
+  pub instance : Instance
+  pub named : S slot ≡ Some (Part (instance ∷ []))
+  pub celled : (p : ℕ) → p < ports_of instance.prim → IsSome (slice_get instance.cells p)
+  pub apart : (p q : ℕ) (c : Cell) → p < ports_of instance.prim → q < ports_of instance.prim → slice_get instance.cells p ≡ Some c → slice_get instance.cells q ≡ Some c → p ≡ q
+  pub wide : (p w : ℕ) → slice_get instance.widths p ≡ Some w → 1 < 2 ^ w
+
+-- one of the facts, with the set beside it, has its source in the maker, which is one instance: it would lead back to what it came from
+pub record LeadsBack (S : Stock ℕ) (kept : Family) (maker : Option ℕ) (from : List Fact) (ms : List (Set ℕ)) : Type 0 where
+  pub slot : ℕ
+  pub made : maker ≡ Some slot
+  pub lone : IsLone S slot
+  pub some_sourced : SomeWaits (IsSourced S kept slot) from ms
+
 -- what is kept are environments of the stock whose closures have the target, none contains another, and none contains a nogood
 pub record IsSound (S : Stock ℕ) (kept : Family) : Type 0 where
   pub environments : (t : Target) (E : Set ℕ) → kept t E → IsEnvironment S E
@@ -115,12 +139,12 @@ pub record AreRecorded (S : Stock ℕ) (met : Fact → Type 0) (scope : Scope) (
       (c : Cell) (v w : ℕ) → (v ≡ w → ⊥) → scope None (IsEither (fact c v) (fact c w)) → met (fact c v) → met (fact c w)
       → HasInference recorded None None (IsEither (fact c v) (fact c w))
 
--- each reading, and each choice of kept sets for a recorded inference, is reached, is to be put in, or waits
+-- each reading, and each choice of kept sets for a recorded inference, is reached, is to be put in, waits, or leads back
 pub record AreCarriedOut (S : Stock ℕ) (kept : Family) (recorded : RecordedInference → Type 0) (pending : Family) (waits : RecordedInference → Fact → Set ℕ → Type 0) : Type 0 where
   pub readings : (k : ℕ) (f : Fact) (E : Set ℕ) → S k ≡ Some (Reading f) → IsTrue (E k) → IsDue kept pending (Some f) E
   pub inferences :
       (j : RecordedInference) (ms : List (Set ℕ)) (E : Set ℕ) → recorded j → AreChosen kept E j.from ms → HasMaker j.maker E
-      → IsDue kept pending j.to E ⊎ SomeWaits (waits j) j.from ms
+      → IsDue kept pending j.to E ⊎ (SomeWaits (waits j) j.from ms ⊎ LeadsBack S kept j.maker j.from ms)
 
 -- what is to be put in is sound
 pub record IsPendingSound (S : Stock ℕ) (pending : Family) : Type 0 where
@@ -143,6 +167,22 @@ Waits recorded at_hand came j f E = at_hand j f E ⊎ (recorded j × IsIn j.from
 pub record HaveComeSoundly (S : Stock ℕ) (came : Fact → Set ℕ → Type 0) : Type 0 where
   pub environment : (f : Fact) (E : Set ℕ) → came f E → IsEnvironment S E
   pub sound : (f : Fact) (E : Set ℕ) → came f E → Has S f E
+
+-- what is due to a component, and what came by one, has its source there; what is at hand and what came is reached at its fact
+pub record AreSourced
+    (S : Stock ℕ) (kept : Family) (due_by : ℕ → Fact → Set ℕ → Type 0) (at_hand : RecordedInference → Fact → Set ℕ → Type 0) (came : Fact → Set ℕ → Type 0)
+    (came_by : ℕ → Fact → Set ℕ → Type 0) : Type 0 where
+  pub due : (k : ℕ) (f : Fact) (E : Set ℕ) → due_by k f E → IsSourced S kept k f E
+  pub at_hand_reached : (j : RecordedInference) (f : Fact) (E : Set ℕ) → at_hand j f E → IsReached kept (Some f) E
+  pub came_reached : (f : Fact) (E : Set ℕ) → came f E → IsReached kept (Some f) E
+  pub came_sourced : (k : ℕ) (f : Fact) (E : Set ℕ) → came_by k f E → IsSourced S kept k f E
+
+-- the maker of the inference is one instance, and the fact with the set has its source in it
+pub record IsPassedOver (S : Stock ℕ) (kept : Family) (maker : Option ℕ) (f : Fact) (E : Set ℕ) : Type 0 where
+  pub slot : ℕ
+  pub made : maker ≡ Some slot
+  pub lone : IsLone S slot
+  pub sourced : IsSourced S kept slot f E
 
 -- the two keep the same sets that lack the slot
 abbrev pub AgreeWithout : ℕ → Family → Family → Type 0

@@ -1,14 +1,11 @@
 use Rattle.std.proofs.Common.{sym, ◌∙◌}
-use Rattle.environment_sets.specs.Members.{members}
 use Rattle.label_engine.proofs.Picks.{alone}
 use Rattle.label_engine.proofs.Pieces.{IfOk-map, unions_with_other}
-use Rattle.label_engine.proofs.Walked.{union_from}
 use Rattle.label_engine.proofs.update.add_unions.Goals as goal
 
 pub returns-in_ok-push-in-None : goal.returns-in_ok-push-in-None
 returns-in_ok-push-in-None c =
-    rw c.in_ok-push-in-None.ensures.items (alone c.args.item.now c.args.nodes.now c.args.due.now.items c.union_with.result (sym c.other_of.ensures ∙ c.in-None.is)
-    (rw (← c.empty.ensures) (union_from c.args.item.now c.begun_union.result c.union_with.result (members c.empty.result) c.begun_union.ensures c.union_with.ensures.target c.union_with.ensures.joined)))
+    rw c.in_ok-push-in-None.ensures.items (alone c.args.item.now c.args.nodes.now c.args.due.now.items c.sourced_union.result (sym c.other_of.ensures ∙ c.in-None.is) (rw (← c.empty-none.ensures) c.sourced_union.ensures))
 
 pub returns-in-Some-label : goal.returns-in-Some-label
 returns-in-Some-label c =

@@ -3,8 +3,8 @@ use Rattle.std.proofs.lemmas.List.{take_more, take_all}
 use Rattle.environment_sets.specs.declared.environment.Env.{Env}
 use Rattle.environment_sets.specs.Members.{members, HasMember}
 use Rattle.environment_sets.specs.Families.{IsCovered}
-use Rattle.label_engine.specs.Update.{IsUnion, HasUnionsWith}
-use Rattle.label_engine.proofs.Walked.{none_yet, one_more, union_from, all_reached}
+use Rattle.label_engine.specs.Update.{HasUnionsWith}
+use Rattle.label_engine.proofs.Walked.{none_yet, one_more, all_reached}
 use Rattle.label_engine.proofs.update.add_unions_with.Goals as goal
 
 pub loop-env-init : goal.loop-env-init
@@ -18,8 +18,7 @@ loop-env-preserved c =
     let low : i < length label = (let P : List Env → Type 0 = λ l. i < length l in subst P c.members-env-items.ensures c.loop-env-test.true) in
     let at : get_or label i env ≡ env = (let P : List Env → Type 0 = λ l. get_or l i env ≡ env in subst P c.members-env-items.ensures (sym c.env-item.is)) in
     let front : take (i + 1) label ≡ take i label ++ env ∷ [] = take_more label i env low ∙ ap (λ (e : Env). take i label ++ e ∷ []) at in
-    let is : IsUnion c.args.item.now (members env) c.union_with-union.result = union_from c.args.item.now c.begun_union-begun.result c.union_with-union.result (members env) c.begun_union-begun.ensures c.union_with-union.ensures.target c.union_with-union.ensures.joined in
-    rw front (one_more c.args.item.now c.args.nodes.now (take i label) env c.args.due.now.items c.loop-env.due.items c.add_union.new.due.items c.union_with-union.result c.loop-env.invariant is c.in_ok-add_union.ensures)
+    rw front (one_more c.args.item.now c.args.nodes.now (take i label) env c.args.due.now.items c.loop-env.due.items c.add_union.new.due.items c.loop-env.invariant c.in_ok-add_union.ensures)
 
 pub returns : goal.returns
 returns c =

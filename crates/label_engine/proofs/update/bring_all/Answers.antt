@@ -1,4 +1,4 @@
-use Rattle.std.proofs.Common.{◌++◌, List, ap, append_assoc, true, false, ◌∙◌}
+use Rattle.std.proofs.Common.{◌++◌, ℕ, Option, List, ap, append_assoc, true, false, ◌∙◌}
 use Rattle.circuit_model.specs.declared.model.Fact.{Fact}
 use Rattle.environment_sets.specs.declared.environment.Env.{Env}
 use Rattle.inference_search.specs.declared.inferred.Inferred.{Inferred}
@@ -10,11 +10,12 @@ use Rattle.label_engine.proofs.update.bring_all.Goals as goal
 
 pub returns : goal.returns
 returns c =
-    let f : Fact = c.args.fact.now in
-    let e : Env = c.args.env.now in
+    let passed : Option ℕ = c.args.passed in
+    let f : Fact = c.args.arrival.now.fact in
+    let e : Env = c.args.arrival.now.env in
     let near : List Inferred = c.near-near.result.now in
     let was : List Pending = c.args.work.now.items in
     IfOk-map c.bring_uses-2.result
-    (λ x then. then ∙ (ap (λ l. l ++ items_to true f e near) c.in_ok-bring_uses.ensures
-    ∙ (append_assoc was (items_to false f e near) (items_to true f e near) ∙ ap (λ l. was ++ l) (items_near f e near c.args.recorded.now c.near-near.ensures.uses))))
+    (λ x then. then ∙ (ap (λ l. l ++ items_to passed true f e near) c.in_ok-bring_uses.ensures
+    ∙ (append_assoc was (items_to passed false f e near) (items_to passed true f e near) ∙ ap (λ l. was ++ l) (items_near passed f e near c.args.recorded.now c.near-near.ensures.uses))))
     c.bring_uses-2.ensures
