@@ -7,6 +7,7 @@ ghost use Rattle.environment_sets.specs.Sets.{◌⊆◌};
 ghost use Rattle.environment_sets.specs.Families.{IsCovered, IsAntichain, Adds, Drops, AreInside};
 ghost use Rattle.environment_sets.specs.Orders.{ListsAll, IsOrder};
 ghost use Rattle.environment_sets.specs.Walks.{GivesNextEnv, envs_left};
+ghost use Rattle.antichains.specs.Completed.{Complete, Lacking};
 ghost use Rattle.antichains.specs.Signed.{HasSubsetAt};
 
 use antichains::{Antichain, Inserted};
@@ -92,6 +93,16 @@ impl Nogoods {
         ensures kept { HasSubsetAt self.now place.old (members env.now) → place.new ≡ place.old }
     {
         self.antichain.covers_from(env, place)
+    }
+
+    /// Slots with any of which the environment contains a nogood that lacks this one. So, of many environments that all
+    /// contain this one, those that have such a slot are seen to be no good with no look at the nogoods. Few slots are
+    /// left out: those that a nogood needs beside further ones, and the environment's own.
+    pub fn completing(&self, env: &Env, lacked: u16) -> Env
+        requires { lacked < SLOTS }
+        ensures { Complete (members result) (Lacking lacked (HasMember self.now)) (members env.now) }
+    {
+        self.antichain.completing(env, lacked)
     }
 
     /// Drops the members that have the slot, which is below [`SLOTS`]. It takes no memory.

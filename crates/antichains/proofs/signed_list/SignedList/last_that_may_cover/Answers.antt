@@ -1,4 +1,4 @@
-use Rattle.std.proofs.Common.{◌≡◌, ℕ, inl, inr, ◌-◌, arith, subst, true≢false, sym, ◌∙◌}
+use Rattle.std.proofs.Common.{◌≡◌, inl, inr, ◌-◌, arith, subst, true≢false, sym, ◌∙◌}
 use Rattle.std.proofs.lemmas.Bool.{cases_lt}
 use Rattle.antichains.specs.Signed.{MayCover}
 use Rattle.antichains.proofs.signed_list.SignedList.last_that_may_cover.Goals as goal
