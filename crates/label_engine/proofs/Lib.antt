@@ -7,6 +7,7 @@ pub mod Picks
 pub mod Shelves
 pub mod Needed
 pub mod Holding
+pub mod Completed
 pub mod Walked
 pub mod Pieces
 pub mod Assuming

@@ -4,6 +4,7 @@ use Rattle.environment_sets.specs.declared.environment.Env.{Env}
 use Rattle.environment_sets.specs.Members.{members, HasMember}
 use Rattle.environment_sets.specs.Families.{IsCovered}
 use Rattle.label_engine.specs.Update.{IsUnion, HasUnionsWith}
+use Rattle.label_engine.proofs.Completed.{completed_union}
 use Rattle.label_engine.proofs.Walked.{none_yet, one_more, union_from, all_reached}
 use Rattle.label_engine.proofs.update.add_unions_with.Goals as goal
 
@@ -20,6 +21,9 @@ loop-env-preserved c =
     let front : take (i + 1) label ≡ take i label ++ env ∷ [] = take_more label i env low ∙ ap (λ (e : Env). take i label ++ e ∷ []) at in
     let is : IsUnion c.args.item.now (members env) c.union_with-union.result = union_from c.args.item.now c.begun_union-begun.result c.union_with-union.result (members env) c.begun_union-begun.ensures c.union_with-union.ensures.target c.union_with-union.ensures.joined in
     rw front (one_more c.args.item.now c.args.nodes.now (take i label) env c.args.due.now.items c.loop-env.due.items c.add_union.new.due.items c.union_with-union.result c.loop-env.invariant is c.in_ok-add_union.ensures)
+
+pub add_union-requires-clause-completing : goal.add_union-requires-clause-completing
+add_union-requires-clause-completing c = completed_union c.args.item.now c.args.nodes.now.nogoods (members c.completing_with-completing.result) (members c.env-item.result) c.begun_union-begun.result c.union_with-union.result c.begun_union-begun.ensures c.union_with-union.ensures.joined (c.completing_with-completing.ensures c.args.nodes.now.nogoods c.requires.completing)
 
 pub returns : goal.returns
 returns c =
