@@ -23,7 +23,6 @@ use Rattle.propagation.proofs.Unions.{leads_on}
 use Rattle.propagation.proofs.Whole as whole
 use Rattle.label_engine.specs.declared.node.Node.{Node}
 use Rattle.label_engine.specs.declared.node.Insertion.{Insertion}
-use Rattle.label_engine.specs.declared.update.Arrival.{Arrival}
 use Rattle.label_engine.specs.declared.update.Pending.{Pending}
 use Rattle.label_engine.specs.declared.update.Update.{Update}
 use Rattle.label_engine.specs.Nodes.{facts_of, label_in, KeptIn}

@@ -1,5 +1,5 @@
 -- Recorded inferences, those that use a fact found by the fact's net.
-use Rattle.std.specs.Prelude.{◌≡◌, ℕ, ◌+◌, ◌*◌, ◌%◌, ◌<◌, ◌≤◌, Bool, false, ◌==◌, ◌||◌, cond, Option, Some, None, List, [], ◌∷◌, ◌++◌, length, filter, slice_get}
+use Rattle.std.specs.Prelude.{◌≡◌, ℕ, ◌%◌, ◌<◌, ◌≤◌, Bool, false, ◌==◌, ◌||◌, cond, Option, Some, None, List, [], ◌∷◌, ◌++◌, length, filter, slice_get}
 use Rattle.circuit_model.specs.declared.model.Fact.{Fact}
 use Rattle.inference_search.specs.declared.inferred.Inferred.{Inferred}
 use Rattle.label_engine.specs.declared.keys.TheConstants.{SHELVES}
