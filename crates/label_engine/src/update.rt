@@ -289,9 +289,9 @@ fn completing_with(completing: &Completing, env: &Env) -> Env
     }
 }
 
-// Whether an environment of the target's label, or a nogood, is a subset of the union with the other environment. The one of
-// the label that was found for the last union is tried first. With a slot that completes a nogood the union contains one,
-// which most unions do that contain any. Then the nogoods are tried, which are few, and then the label.
+// Whether an environment of the target's label, or a nogood, is a subset of the union with the other environment. Those that
+// were found for the last union are tried first. With a slot that completes a nogood the union contains one, which most unions
+// do that contain any. Then the nogoods are tried, which are few, and then the label.
 fn is_covered(
     nodes: &Nodes,
     label: Option<&Label>,
@@ -309,7 +309,7 @@ fn is_covered(
             return true;
         }
     }
-    if completing.meets(other) {
+    if nodes.nogoods.covers_at(&union.env, last.nogood) || completing.meets(other) {
         return true;
     }
     if nodes.nogoods.covers_from(&union.env, &mut last.nogood) {

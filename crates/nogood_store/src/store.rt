@@ -85,6 +85,15 @@ impl Nogoods {
         self.antichain.covers(env)
     }
 
+    /// Whether there is a member at the place, and it is a subset of the environment. For where one place is likely, and the
+    /// answer no says nothing of the others.
+    pub fn covers_at(&self, env: &Env, place: usize) -> bool
+        ensures here { IsTrue result ↔ HasSubsetAt self.now place (members env.now) }
+        ensures covered { IsTrue result → IsCovered (HasMember self.now) (members env.now) }
+    {
+        self.antichain.covers_at(env, place)
+    }
+
     /// Whether a member is a subset of the environment. The member at the place is tried first, and where another one is
     /// found, the place becomes its: of environments that are much alike, one member often covers the next one too.
     pub fn covers_from(&self, env: &Env, place: &mut usize) -> bool
