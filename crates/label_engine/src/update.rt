@@ -279,14 +279,13 @@ fn none_completing() -> Completing
 }
 
 // The slots also complete an environment that contains theirs. Of any other, none are known.
-fn completing_with(completing: &Completing, env: &Env) -> Env
-    ensures { (es : List Env) → Complete (members completing.now.slots) (HasMember es) (members completing.now.env) → Complete (members result) (HasMember es) (members env.now) }
+fn completing_with<'a>(completing: &'a Completing, env: &Env) -> Option<&'a Env>
+    ensures { (es : List Env) → Complete (members completing.now.slots) (HasMember es) (members completing.now.env) → ForSome result (λ slots. Complete (members slots.now) (HasMember es) (members env.now)) }
 {
-    if completing.env.is_subset(env) {
-        completing.slots
-    } else {
-        Env::empty()
+    if completing.slots == Env::empty() || !completing.env.is_subset(env) {
+        return None;
     }
+    Some(&completing.slots)
 }
 
 // Whether an environment of the target's label, or a nogood, is a subset of the union with the other environment. Those that
@@ -297,11 +296,11 @@ fn is_covered(
     label: Option<&Label>,
     union: &Insertion,
     other: &Env,
-    completing: &Env,
+    completing: Option<&Env>,
     last: &mut LastCovers,
 ) -> bool
     requires label { ForSome label (λ l. AreKeptAt nodes.now union.now.target l.now) }
-    requires completing { Hits (members completing.now) (members other.now) → IsCovered (HasMember nodes.now.nogoods) (members union.now.env) }
+    requires completing { ForSome completing (λ slots. Hits (members slots.now) (members other.now) → IsCovered (HasMember nodes.now.nogoods) (members union.now.env)) }
     ensures { IsTrue result → IsReached (KeptIn nodes.now) union.now.target (members union.now.env) }
 {
     if let Some(label) = label {
@@ -309,8 +308,13 @@ fn is_covered(
             return true;
         }
     }
-    if nodes.nogoods.covers_at(&union.env, last.nogood) || completing.meets(other) {
+    if nodes.nogoods.covers_at(&union.env, last.nogood) {
         return true;
+    }
+    if let Some(slots) = completing {
+        if slots.meets(other) {
+            return true;
+        }
     }
     if nodes.nogoods.covers_from(&union.env, &mut last.nogood) {
         return true;
@@ -328,11 +332,11 @@ fn add_union(
     label: Option<&Label>,
     union: Insertion,
     other: &Env,
-    completing: &Env,
+    completing: Option<&Env>,
     last: &mut LastCovers,
 ) -> Result<(), AllocError>
     requires label { ForSome label (λ l. AreKeptAt nodes.now union.target l.now) }
-    requires completing { Hits (members completing.now) (members other.now) → IsCovered (HasMember nodes.now.nogoods) (members union.env) }
+    requires completing { ForSome completing (λ slots. Hits (members slots.now) (members other.now) → IsCovered (HasMember nodes.now.nogoods) (members union.env)) }
     ensures { IfOk result (λ _. IsAddedOrReached nodes.now union due.old.items due.new.items) }
 {
     if is_covered(nodes, label, &union, other, completing, last) {
@@ -370,7 +374,7 @@ fn add_unions_with(
     let completing = completing_with(completing, &item.env);
     for env in label.members() {
         let union = union_with(&begun, *env);
-        add_union(due, nodes, target, union, env, &completing, &mut last)?;
+        add_union(due, nodes, target, union, env, completing, &mut last)?;
     }
     Ok(())
 }

@@ -23,7 +23,10 @@ loop-env-preserved c =
     rw front (one_more c.args.item.now c.args.nodes.now (take i label) env c.args.due.now.items c.loop-env.due.items c.add_union.new.due.items c.union_with-union.result c.loop-env.invariant is c.in_ok-add_union.ensures)
 
 pub add_union-requires-clause-completing : goal.add_union-requires-clause-completing
-add_union-requires-clause-completing c = completed_union c.args.item.now c.args.nodes.now.nogoods (members c.completing_with-completing.result) (members c.env-item.result) c.begun_union-begun.result c.union_with-union.result c.begun_union-begun.ensures c.union_with-union.ensures.joined (c.completing_with-completing.ensures c.args.nodes.now.nogoods c.requires.completing)
+add_union-requires-clause-completing c = λ slots is.
+    let union = c.union_with-union.result in
+    completed_union c.args.item.now c.args.nodes.now.nogoods (members slots.now) (members c.env-item.result) c.begun_union-begun.result union c.begun_union-begun.ensures c.union_with-union.ensures.joined
+    (c.completing_with-completing.ensures c.args.nodes.now.nogoods c.requires.completing slots is)
 
 pub returns : goal.returns
 returns c =
