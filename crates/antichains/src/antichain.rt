@@ -166,8 +166,8 @@ impl Antichain {
     }
 
     /// Slots with any of which the environment contains a member that lacks this one. So, of many environments that all
-    /// contain this one, those that have such a slot are seen to be covered with no look at the members. Few slots are
-    /// left out: those that the environment needs beside further ones, and its own.
+    /// contain this one, those that have such a slot are seen to be covered with no look at the members.
+    /// That no further slot but the environment's own does so is said by no clause, as nothing rests on it.
     pub fn completing(&self, env: &Env, lacked: u16) -> Env
         requires { lacked < SLOTS }
         ensures { Complete (members result) (Lacking lacked (HasMember self.now)) (members env.now) }

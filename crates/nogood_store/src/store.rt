@@ -105,8 +105,8 @@ impl Nogoods {
     }
 
     /// Slots with any of which the environment contains a nogood that lacks this one. So, of many environments that all
-    /// contain this one, those that have such a slot are seen to be no good with no look at the nogoods. Few slots are
-    /// left out: those that a nogood needs beside further ones, and the environment's own.
+    /// contain this one, those that have such a slot are seen to be no good with no look at the nogoods.
+    /// That no further slot but the environment's own does so is said by no clause, as nothing rests on it.
     pub fn completing(&self, env: &Env, lacked: u16) -> Env
         requires { lacked < SLOTS }
         ensures { Complete (members result) (Lacking lacked (HasMember self.now)) (members env.now) }
