@@ -1,3 +1,4 @@
 pub mod Nearest
 pub mod Largest
 pub mod Signed
+pub mod Completed

@@ -7,9 +7,11 @@ ghost use Rattle.environment_sets.specs.Members.{members, sets, HasMember};
 ghost use Rattle.environment_sets.specs.Families.{IsCovered, IsAntichain, Adds, Drops, AreInside};
 ghost use Rattle.environment_sets.specs.Orders.{ListsAll, IsOrder};
 ghost use Rattle.environment_sets.specs.Walks.{ComesAfter, GivesNextEnv, envs_left};
+ghost use Rattle.antichains.specs.Completed.{Complete, Lacking};
 ghost use Rattle.antichains.specs.Largest.{AreAtMost, AreWithin};
 ghost use Rattle.antichains.specs.Signed.{HasSubsetAt, IsSigned, HasRoom};
 
+use crate::completing::completing;
 use crate::nearest::first_after;
 use crate::signed_list::SignedList;
 use environment_sets::{Env, SLOTS};
@@ -169,6 +171,16 @@ impl Antichain {
             }
             None => false,
         }
+    }
+
+    /// Slots with any of which the environment contains a member that lacks this one. So, of many environments that all
+    /// contain this one, those that have such a slot are seen to be covered with no look at the members.
+    /// That no further slot but the environment's own does so is said by no clause, as nothing rests on it.
+    pub fn completing(&self, env: &Env, lacked: u16) -> Env
+        requires { lacked < SLOTS }
+        ensures { Complete (members result) (Lacking lacked (HasMember self.now)) (members env.now) }
+    {
+        completing(&self.signed, env, lacked)
     }
 
     /// Drops the members that have the slot, which is below [`SLOTS`]. It takes no memory.

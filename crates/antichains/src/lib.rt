@@ -2,6 +2,7 @@
 #![tactic(auto)]
 
 mod antichain;
+mod completing;
 mod nearest;
 mod signed_list;
 

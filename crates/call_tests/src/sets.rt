@@ -66,3 +66,26 @@ fn labels_and_nogoods_keep_minimal_members(rt: HostRuntime) -> Result<(), Fail> 
     assert!(rt; nogoods.next_after(&ORDER, &all, Some(&one)) == three);
     Ok(())
 }
+
+// The set of slot 1 and each other slot below 60.
+fn put_pairs(nogoods: &mut Nogoods) -> Result<(), AllocError> {
+    for slot in 2..60 {
+        nogoods.insert(Env::empty().with(1).with(slot))?;
+    }
+    Ok(())
+}
+
+#[test]
+fn slots_complete_nogoods(rt: HostRuntime) -> Result<(), Fail> {
+    let one = Env::empty().with(1);
+    let mut nogoods = Nogoods::new(rt.alloc());
+    put_pairs(&mut nogoods)?;
+    let slots = nogoods.completing(&one, 5);
+    assert!(rt; slots.size() == 57 && slots.has(59) && !slots.has(5) && !slots.has(1));
+    assert!(rt; nogoods.completing(&Env::empty(), 5) == Env::empty());
+    assert!(rt; nogoods.covers_at(&one.with(2), 0) && !nogoods.covers_at(&one.with(2), 1));
+    assert!(rt; nogoods.insert(Env::empty())? == Inserted::Added);
+    assert!(rt; nogoods.count_inside(&one) == 1 && nogoods.covers(&Env::empty()));
+    assert!(rt; nogoods.completing(&one, 5) == Env::empty());
+    Ok(())
+}

@@ -8,6 +8,7 @@ pub mod Shelves
 pub mod Needed
 pub mod Lones
 pub mod Holding
+pub mod Completed
 pub mod Walked
 pub mod Pieces
 pub mod Assuming

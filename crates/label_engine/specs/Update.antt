@@ -11,6 +11,7 @@ use Rattle.environment_sets.specs.Sets.{Set, ◌⊆◌, ◌∪◌, no_elements, 
 use Rattle.environment_sets.specs.Members.{members, HasMember}
 use Rattle.environment_sets.specs.Lists.{IsIn, AreDistinct}
 use Rattle.environment_sets.specs.Families.{Drops}
+use Rattle.antichains.specs.Completed.{Complete, Lacking}
 use Rattle.propagation.specs.Propagating.{Target, Family, RecordedInference, All, AreRecorded, IsLone, AreSourced, IsPropagating, IsReached, AgreeWithout, IsPut}
 use Rattle.propagation.specs.Uncovered.{uncovered}
 use Rattle.label_engine.specs.declared.node.Node.{Node}
@@ -22,6 +23,7 @@ use Rattle.inference_search.specs.Inferences.{facts, inference, RecordedIn}
 use Rattle.inference_search.specs.Found.{AreFound}
 use Rattle.label_engine.specs.declared.update.Arrival.{Arrival}
 use Rattle.label_engine.specs.declared.update.Pending.{Pending}
+use Rattle.label_engine.specs.declared.update.Completing.{Completing}
 use Rattle.label_engine.specs.declared.update.Update.{Update}
 use Rattle.label_engine.specs.Nodes.{is_same, facts_of, label_in, KeptIn, AreSupported, reaches}
 
@@ -221,6 +223,14 @@ AreKeptAt nodes t envs = (E : Set ℕ) → HasMember envs E → KeptIn nodes t E
 -- the item's union with the set is due too, or it is reached and what is due stays
 abbrev pub IsAddedOrReached : Pending → Nodes → Set ℕ → List Insertion → List Insertion → Type 0
 IsAddedOrReached item nodes E old new = ((d : Insertion) × IsUnion item E d × (new ≡ old ++ d ∷ [])) ⊎ ((new ≡ old) × IsReached (KeptIn nodes) item.inferred.to (union_of item E))
+
+-- with any of the slots, the environment contains a nogood
+abbrev pub IsCompleting : Nodes → Completing → Type 0
+IsCompleting nodes c = Complete (members c.slots) (HasMember nodes.nogoods) (members c.env)
+
+-- with any of the slots, the environment contains a nogood that lacks the slot, and that stays while the slot is worked in
+abbrev pub StaysCompleting : ℕ → Nodes → Completing → Type 0
+StaysCompleting slot nodes c = Complete (members c.slots) (Lacking slot (HasMember nodes.nogoods)) (members c.env)
 
 -- what was due still is; a union for each environment of the label is due too, or reached; and nothing else is due
 pub record HasUnionsWith (item : Pending) (nodes : Nodes) (label : List Env) (old new : List Insertion) : Type 0 where

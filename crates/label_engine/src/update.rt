@@ -4,15 +4,16 @@ ghost use Rattle.std.specs.Prelude.{IsTrue, ◌≡◌, ℕ, ◌^◌, ◌<◌, �
 ghost use Rattle.std.specs.Option.{ForSome};
 ghost use Rattle.environment_sets.specs.declared.environment.TheConstants.{SLOTS};
 ghost use Rattle.environment_sets.specs.Members.{members, HasMember};
-ghost use Rattle.environment_sets.specs.Sets.{◌∪◌};
+ghost use Rattle.environment_sets.specs.Sets.{◌∪◌, Hits};
 ghost use Rattle.environment_sets.specs.Lists.{AreDistinct};
-ghost use Rattle.environment_sets.specs.Families.{Drops};
+ghost use Rattle.environment_sets.specs.Families.{Drops, IsCovered};
+ghost use Rattle.antichains.specs.Completed.{Complete};
 ghost use Rattle.circuit_model.specs.declared.model.Instance.{Instance};
 ghost use Rattle.circuit_model.specs.declared.model.Assumption.TheVariants.{Part, Reading};
 ghost use Rattle.propagation.specs.Uncovered.{Fits, TargetFits};
 ghost use Rattle.propagation.specs.Propagating.{IsReached};
 ghost use Rattle.label_engine.specs.Nodes.{facts_of, KeptIn, IsMet, EachDrops};
-ghost use Rattle.label_engine.specs.Update.{item_at, items_at, items_to, is_next, ends_in, some_fact, goes_from_none, due_with, items_with, items_from, other_fact, made_by, HasUnions, HasUnionsWith, HasMet, AreKeptAlike, IsPutThere, Propagates, DueAlso, IsAtHandAlso, HasComeAlso, CarriesOn, IsReady, BeginsUnions, IsSourceOf, IsUnion, union_of, AreKeptAt, IsAddedOrReached, Survives, before, IsAtRest, IsTakenBack, HasForgotten};
+ghost use Rattle.label_engine.specs.Update.{item_at, items_at, items_to, is_next, ends_in, some_fact, goes_from_none, due_with, items_with, items_from, other_fact, made_by, HasUnions, HasUnionsWith, HasMet, AreKeptAlike, IsPutThere, Propagates, DueAlso, IsAtHandAlso, HasComeAlso, CarriesOn, IsReady, BeginsUnions, IsSourceOf, IsUnion, union_of, AreKeptAt, IsAddedOrReached, Survives, before, IsAtRest, IsTakenBack, HasForgotten, IsCompleting, StaysCompleting};
 ghost use Rattle.assumption_slots.specs.Slots.{stock};
 
 use crate::node::{Insertion, Nodes};
@@ -53,6 +54,13 @@ pub struct Update {
     pub due: Vec<Insertion>,
     pub work: Vec<Pending>,
     pub agenda: Agenda<Arrival>,
+}
+
+/// Slots with any of which the environment contains a nogood.
+#[derive(Clone, Copy)]
+pub struct Completing {
+    pub env: Env,
+    pub slots: Env,
 }
 
 /// Where the last union was found to be covered: the places of a member of the label, and of a nogood.
@@ -295,19 +303,51 @@ fn label_at<'a>(nodes: &'a Nodes, target: &Option<Fact>) -> Option<&'a Label>
     }
 }
 
-// Whether an environment of the target's label, or a nogood, is a subset of the union. Those that were found for the last
-// union are tried first, and the nogoods, which are few, before the label.
+// No slots.
+fn none_completing() -> Completing
+    ensures { (slot : ℕ) (nodes : Nodes) → StaysCompleting slot nodes result }
+{
+    Completing {
+        env: Env::empty(),
+        slots: Env::empty(),
+    }
+}
+
+// The slots also complete an environment that contains theirs. Of any other, none are known.
+fn completing_with<'a>(completing: &'a Completing, env: &Env) -> Option<&'a Env>
+    ensures { (es : List Env) → Complete (members completing.now.slots) (HasMember es) (members completing.now.env) → ForSome result (λ slots. Complete (members slots.now) (HasMember es) (members env.now)) }
+{
+    if completing.slots == Env::empty() || !completing.env.is_subset(env) {
+        return None;
+    }
+    Some(&completing.slots)
+}
+
+// Whether an environment of the target's label, or a nogood, is a subset of the union with the other environment. Those that
+// were found for the last union are tried first. With a slot that completes a nogood the union contains one, which most unions
+// do that contain any. Then the nogoods are tried, which are few, and then the label.
 fn is_covered(
     nodes: &Nodes,
     label: Option<&Label>,
     union: &Insertion,
+    other: &Env,
+    completing: Option<&Env>,
     last: &mut LastCovers,
 ) -> bool
-    requires { ForSome label (λ l. AreKeptAt nodes.now union.now.target l.now) }
+    requires label { ForSome label (λ l. AreKeptAt nodes.now union.now.target l.now) }
+    requires completing { ForSome completing (λ slots. Hits (members slots.now) (members other.now) → IsCovered (HasMember nodes.now.nogoods) (members union.now.env)) }
     ensures { IsTrue result → IsReached (KeptIn nodes.now) union.now.target (members union.now.env) }
 {
     if let Some(label) = label {
         if label.covers_at(&union.env, last.member) {
+            return true;
+        }
+    }
+    if nodes.nogoods.covers_at(&union.env, last.nogood) {
+        return true;
+    }
+    if let Some(slots) = completing {
+        if slots.meets(other) {
             return true;
         }
     }
@@ -328,14 +368,16 @@ fn add_union(
     item: &Pending,
     begun: &Insertion,
     other: &Env,
+    completing: Option<&Env>,
     last: &mut LastCovers,
 ) -> Result<(), AllocError>
     requires begun { BeginsUnions item.now begun.now }
     requires label { ForSome label (λ l. AreKeptAt nodes.now begun.now.target l.now) }
+    requires completing { ForSome completing (λ slots. Complete (members slots.now) (HasMember nodes.now.nogoods) (members item.now.env)) }
     ensures { IfOk result (λ _. IsAddedOrReached item.now nodes.now (members other.now) due.old.items due.new.items) }
 {
     let union = union_with(begun, *other);
-    if is_covered(nodes, label, &union, last) {
+    if is_covered(nodes, label, &union, other, completing, last) {
         return Ok(());
     }
     due.push(sourced_union(item, other, union))?;
@@ -350,8 +392,10 @@ fn add_unions_with(
     nodes: &Nodes,
     label: &Label,
     item: &Pending,
+    completing: &Completing,
 ) -> Result<(), AllocError>
-    requires { IfSome item.now.inferred.maker (λ slot. slot < SLOTS) }
+    requires maker { IfSome item.now.inferred.maker (λ slot. slot < SLOTS) }
+    requires completing { IsCompleting nodes.now completing.now }
     ensures { IfOk result (λ _. HasUnionsWith item.now nodes.now label.now due.old.items due.new.items) }
 {
     let begun = begun_union(item);
@@ -365,15 +409,22 @@ fn add_unions_with(
             return Ok(());
         }
     }
+    let completing = completing_with(completing, &item.env);
     for env in label.members() {
-        add_union(due, nodes, target, item, &begun, env, &mut last)?;
+        add_union(due, nodes, target, item, &begun, env, completing, &mut last)?;
     }
     Ok(())
 }
 
 // The unions of the item with what is kept at the other fact, if there is one, are due, where they are not reached.
-fn add_unions(due: &mut Vec<Insertion>, nodes: &Nodes, item: &Pending) -> Result<(), AllocError>
-    requires { IfSome item.now.inferred.maker (λ slot. slot < SLOTS) }
+fn add_unions(
+    due: &mut Vec<Insertion>,
+    nodes: &Nodes,
+    item: &Pending,
+    completing: &Completing,
+) -> Result<(), AllocError>
+    requires maker { IfSome item.now.inferred.maker (λ slot. slot < SLOTS) }
+    requires completing { IsCompleting nodes.now completing.now }
     ensures { IfOk result (λ _. HasUnions item.now nodes.now due.old.items due.new.items) }
 {
     match other_of(&item.inferred, &item.at) {
@@ -384,7 +435,7 @@ fn add_unions(due: &mut Vec<Insertion>, nodes: &Nodes, item: &Pending) -> Result
             Ok(())
         }
         Some(fact) => match nodes.label(&fact) {
-            Some(label) => add_unions_with(due, nodes, label, item),
+            Some(label) => add_unions_with(due, nodes, label, item, completing),
             None => Ok(()),
         },
     }
@@ -478,21 +529,34 @@ impl Update {
     }
 
     // What is at hand is carried out: its unions are due, and all that is due is put in.
-    fn carry_out(&mut self, alloc: Global, slots: &Slots, item: &Pending) -> Result<(), AllocError>
-        requires { IsAtHandAlso slots.now item.now self.old }
+    fn carry_out(
+        &mut self,
+        alloc: Global,
+        slots: &Slots,
+        item: &Pending,
+        completing: &Completing,
+    ) -> Result<(), AllocError>
+        requires at_hand { IsAtHandAlso slots.now item.now self.old }
+        requires completing { StaysCompleting self.old.slot self.old.nodes completing.now }
         ensures ok { IfOk result (λ _. CarriesOn slots.now self.old self.new) }
         ensures none_due { IfOk result (λ _. self.new.due.items ≡ []) }
         ensures work_same { IfOk result (λ _. self.new.work.items ≡ self.old.work.items) }
         ensures survives { Survives self.old self.new }
     {
         slots_fit(slots);
-        add_unions(&mut self.due, &self.nodes, item)?;
+        add_unions(&mut self.due, &self.nodes, item, completing)?;
         self.put_all_in(alloc, slots)
     }
 
     // All that is at hand is carried out, the last first.
-    fn work_off(&mut self, alloc: Global, slots: &Slots) -> Result<(), AllocError>
+    fn work_off(
+        &mut self,
+        alloc: Global,
+        slots: &Slots,
+        completing: &Completing,
+    ) -> Result<(), AllocError>
         requires propagates { Propagates slots.now self.old }
+        requires completing { StaysCompleting self.old.slot self.old.nodes completing.now }
         requires none_due { self.old.due.items ≡ [] }
         ensures ok { IfOk result (λ _. CarriesOn slots.now self.old self.new) }
         ensures none_due { IfOk result (λ _. self.new.due.items ≡ []) }
@@ -500,9 +564,21 @@ impl Update {
         ensures survives { Survives self.old self.new }
     {
         while let Some(item) = self.work.pop() {
-            self.carry_out(alloc, slots, &item)?;
+            self.carry_out(alloc, slots, &item, completing)?;
         }
         Ok(())
+    }
+
+    // The slots with any of which the environment contains a nogood that lacks the assumption's slot. Such a nogood stays until
+    // all is up to date.
+    fn completing(&self, env: &Env) -> Completing
+        requires { self.now.slot < SLOTS }
+        ensures { StaysCompleting self.now.slot self.now.nodes result }
+    {
+        Completing {
+            env: *env,
+            slots: self.nodes.nogoods.completing(env, self.slot),
+        }
     }
 
     // An environment that came is carried out with each inference from its fact, but for those that lead back to its source.
@@ -512,6 +588,7 @@ impl Update {
         slots: &Slots,
         arrival: &Arrival,
     ) -> Result<(), AllocError>
+        requires below { self.old.slot < SLOTS }
         requires came { HasComeAlso slots.now arrival.now self.old }
         requires none_due { self.old.due.items ≡ [] }
         ensures ok { IfOk result (λ _. CarriesOn slots.now self.old self.new) }
@@ -521,8 +598,9 @@ impl Update {
     {
         slots_fit(slots);
         let passed = passed_for(slots, arrival.source);
+        let completing = self.completing(&arrival.env);
         bring_all(&mut self.work, &self.recorded, arrival, passed)?;
-        self.work_off(alloc, slots)
+        self.work_off(alloc, slots, &completing)
     }
 
     // What begins is carried out, and then what came, in the picker's order, until nothing waits.
@@ -532,13 +610,14 @@ impl Update {
         slots: &Slots,
         picker: &mut P,
     ) -> Result<(), AllocError>
+        requires below { self.old.slot < SLOTS }
         requires propagates { Propagates slots.now self.old }
         requires once { AreDistinct (facts_of self.old.nodes.list.items) }
         ensures ok { IfOk result (λ _. IsAtRest (stock slots.now) self.new) }
         ensures survives { Survives self.old self.new }
     {
         self.put_all_in(alloc, slots)?;
-        self.work_off(alloc, slots)?;
+        self.work_off(alloc, slots, &none_completing())?;
         'picks: while !self.agenda.is_empty() {
             let place = picker.pick(self.agenda.len());
             let arrival = self.agenda.take_at(place);

@@ -7,6 +7,7 @@ ghost use Rattle.environment_sets.specs.Sets.{◌⊆◌};
 ghost use Rattle.environment_sets.specs.Families.{IsCovered, IsAntichain, Adds, Drops, AreInside};
 ghost use Rattle.environment_sets.specs.Orders.{ListsAll, IsOrder};
 ghost use Rattle.environment_sets.specs.Walks.{GivesNextEnv, envs_left};
+ghost use Rattle.antichains.specs.Completed.{Complete, Lacking};
 ghost use Rattle.antichains.specs.Signed.{HasSubsetAt};
 
 use antichains::{Antichain, Inserted};
@@ -84,6 +85,15 @@ impl Nogoods {
         self.antichain.covers(env)
     }
 
+    /// Whether there is a member at the place, and it is a subset of the environment. For where one place is likely, and the
+    /// answer no says nothing of the others.
+    pub fn covers_at(&self, env: &Env, place: usize) -> bool
+        ensures here { IsTrue result ↔ HasSubsetAt self.now place (members env.now) }
+        ensures covered { IsTrue result → IsCovered (HasMember self.now) (members env.now) }
+    {
+        self.antichain.covers_at(env, place)
+    }
+
     /// Whether a member is a subset of the environment. The member at the place is tried first, and where another one is
     /// found, the place becomes its: of environments that are much alike, one member often covers the next one too.
     pub fn covers_from(&self, env: &Env, place: &mut usize) -> bool
@@ -92,6 +102,16 @@ impl Nogoods {
         ensures kept { HasSubsetAt self.now place.old (members env.now) → place.new ≡ place.old }
     {
         self.antichain.covers_from(env, place)
+    }
+
+    /// Slots with any of which the environment contains a nogood that lacks this one. So, of many environments that all
+    /// contain this one, those that have such a slot are seen to be no good with no look at the nogoods.
+    /// That no further slot but the environment's own does so is said by no clause, as nothing rests on it.
+    pub fn completing(&self, env: &Env, lacked: u16) -> Env
+        requires { lacked < SLOTS }
+        ensures { Complete (members result) (Lacking lacked (HasMember self.now)) (members env.now) }
+    {
+        self.antichain.completing(env, lacked)
     }
 
     /// Drops the members that have the slot, which is below [`SLOTS`]. It takes no memory.

@@ -2,7 +2,7 @@
 use Rattle.std.proofs.Common.{◌≡◌, ℕ, zero, suc, ◌+◌, ◌*◌, ◌^◌, ◌≤◌, ◌<◌, ◌⊎◌, inl, inr, true, false, cond, refl, sym, ap, subst, List, [], ◌∷◌, length, Option, Some, None, slice_get, arith}
 use Rattle.circuit_model.specs.declared.model.Primitive.{Primitive}
 use Rattle.circuit_model.specs.declared.model.Primitive.TheVariants.{Buf, Not, And, Or, Xor, Nand, Nor, Xnor, Add, Mul, Const}
-use Rattle.circuit_model.specs.Inference.{IsTuple, Matches, IsUsed, Forces}
+use Rattle.circuit_model.specs.Inference.{WordsFit, IsTuple, Matches, IsUsed, Forces}
 use Rattle.environment_sets.specs.Sets.{Set, ◌⊆◌, size_below}
 
 abbrev no_words : List ℕ
@@ -27,14 +27,22 @@ Matches-from (None ∷ known) (x ∷ t) each = Matches-from known t (λ p v e. e
 Matches-from (Some y ∷ known) [] each = let no : slice_get no_words zero ≡ Some y = each zero y refl in cc
 Matches-from (Some y ∷ known) (x ∷ t) each = ((let word : Some x ≡ Some y = each zero y refl in cc), Matches-from known t (λ p v e. each (suc p) v e))
 
+-- three words alike fit where each width has room for them
+alike_fit : (widths : List ℕ) (v : ℕ) → ((p w : ℕ) → slice_get widths p ≡ Some w → v < 2 ^ w) → WordsFit widths (Some v ∷ Some v ∷ Some v ∷ [])
+alike_fit widths v room p w u width word = let same : v ≡ u = one_word p word in subst (λ (n : ℕ). n < 2 ^ w) same (room p w width)
+  where
+    one_word : (p : ℕ) → slice_get (Some v ∷ Some v ∷ Some v ∷ []) p ≡ Some (Some u) → v ≡ u
+    one_word zero e = cc
+    one_word (suc zero) e = cc
+    one_word (suc (suc zero)) e = cc
+    one_word (suc (suc (suc p))) e = cc
+
 -- a product whose widths have more than one word each forces nothing where nothing is known
 never_forced : (widths t : List ℕ) (q u : ℕ) → IsTuple Mul widths t → ((p w : ℕ) → slice_get widths p ≡ Some w → 1 < 2 ^ w) → ((s : List ℕ) → IsTuple Mul widths s → slice_get s q ≡ Some u) → ⊥
-never_forced (w0 ∷ w1 ∷ w2 ∷ widths) t q u tuple wide every =
-    let b0 : 1 < 2 ^ w0 = wide 0 w0 refl in
-    let b1 : 1 < 2 ^ w1 = wide 1 w1 refl in
-    let b2 : 1 < 2 ^ w2 = wide 2 w2 refl in
-    let low : slice_get (0 ∷ 0 ∷ 0 ∷ []) q ≡ Some u = every (0 ∷ 0 ∷ 0 ∷ []) (record { fits = (omega (arith, b0), (omega (arith, b1), (omega (arith, b2), tt))); relates = refl }) in
-    let high : slice_get (1 ∷ 1 ∷ 1 ∷ []) q ≡ Some u = every (1 ∷ 1 ∷ 1 ∷ []) (record { fits = (b0, (b1, (b2, tt))); relates = refl }) in
+never_forced [] t q u tuple wide every = absurd tuple.relates
+never_forced (w ∷ widths) t q u tuple wide every =
+    let low : slice_get (0 ∷ 0 ∷ 0 ∷ []) q ≡ Some u = every (0 ∷ 0 ∷ 0 ∷ []) (record { fits = alike_fit (w ∷ widths) 0 (λ p x e. let room : 1 < 2 ^ x = wide p x e in omega (arith, room)); relates = refl }) in
+    let high : slice_get (1 ∷ 1 ∷ 1 ∷ []) q ≡ Some u = every (1 ∷ 1 ∷ 1 ∷ []) (record { fits = alike_fit (w ∷ widths) 1 wide; relates = refl }) in
     apart q low high
   where
     apart : (p : ℕ) → slice_get (0 ∷ 0 ∷ 0 ∷ []) p ≡ Some u → slice_get (1 ∷ 1 ∷ 1 ∷ []) p ≡ Some u → ⊥
@@ -42,15 +50,6 @@ never_forced (w0 ∷ w1 ∷ w2 ∷ widths) t q u tuple wide every =
     apart (suc zero) low high = let x : 0 ≡ u = cc in let y : 1 ≡ u = cc in omega (arith, x, y)
     apart (suc (suc zero)) low high = let x : 0 ≡ u = cc in let y : 1 ≡ u = cc in omega (arith, x, y)
     apart (suc (suc (suc p))) low high = cc
-never_forced [] (x ∷ t) q u tuple wide every = absurd tuple.fits
-never_forced [] [] q u tuple wide every = absurd tuple.relates
-never_forced (w0 ∷ []) (a ∷ b ∷ t) q u tuple wide every = absurd tuple.fits.1
-never_forced (w0 ∷ []) (a ∷ []) q u tuple wide every = absurd tuple.relates
-never_forced (w0 ∷ []) [] q u tuple wide every = absurd tuple.relates
-never_forced (w0 ∷ w1 ∷ []) (a ∷ b ∷ z ∷ t) q u tuple wide every = absurd tuple.fits.1.1
-never_forced (w0 ∷ w1 ∷ []) (a ∷ b ∷ []) q u tuple wide every = absurd tuple.relates
-never_forced (w0 ∷ w1 ∷ []) (a ∷ []) q u tuple wide every = absurd tuple.relates
-never_forced (w0 ∷ w1 ∷ []) [] q u tuple wide every = absurd tuple.relates
 
 -- words among which those of an inference are, are used
 pub used_more :

@@ -20,6 +20,9 @@ loop-env-preserved c =
     let front : take (i + 1) label ≡ take i label ++ env ∷ [] = take_more label i env low ∙ ap (λ (e : Env). take i label ++ e ∷ []) at in
     rw front (one_more c.args.item.now c.args.nodes.now (take i label) env c.args.due.now.items c.loop-env.due.items c.add_union.new.due.items c.loop-env.invariant c.in_ok-add_union.ensures)
 
+pub add_union-requires-clause-completing : goal.add_union-requires-clause-completing
+add_union-requires-clause-completing c = λ slots is. c.completing_with-completing.ensures c.args.nodes.now.nogoods c.requires.completing slots is
+
 pub returns : goal.returns
 returns c =
     let whole : take c.loop-env.env-index c.args.label.now ≡ c.args.label.now = take_all c.loop-env.env-index c.args.label.now (rw (← c.members-env-items.ensures) c.loop-env-test.false) in

@@ -1,11 +1,16 @@
 use Rattle.std.proofs.Common.{◌≡◌, rules}
+use Rattle.label_engine.proofs.Completed.{stays_completing}
 use Rattle.label_engine.proofs.Pieces.{work_popped, carries_on, survives_on, carries_same, survives_same}
 use Rattle.label_engine.proofs.update.Update.work_off.Goals as goal
 
-pub carry_out-requires : goal.carry_out-requires
-carry_out-requires c =
+pub carry_out-requires-clause-at_hand : goal.carry_out-requires-clause-at_hand
+carry_out-requires-clause-at_hand c =
     work_popped c.args.slots.now c.loop-item.self.slot c.loop-item.self.nodes c.loop-item.self.recorded c.loop-item.self.due.items c.loop-item.self.work.items c.pop.new.self.items c.in-Some.item c.loop-item.self.agenda c.in-Some.ensures.items
     c.loop-item.invariant.carries.propagates
+
+pub carry_out-requires-clause-completing : goal.carry_out-requires-clause-completing
+carry_out-requires-clause-completing c =
+    let was = c.loop-item.invariant.carries in stays_completing c.args.self.now.slot c.loop-item.self.slot c.args.self.now.nodes c.loop-item.self.nodes c.args.completing.now was.agrees was.same_slot c.requires.completing
 
 pub loop-item-preserved : goal.loop-item-preserved
 loop-item-preserved c =
