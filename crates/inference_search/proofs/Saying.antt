@@ -4,17 +4,7 @@ use Rattle.circuit_model.specs.declared.model.Primitive.{Primitive}
 use Rattle.circuit_model.specs.Inference.{WordsFit, IsTuple, Matches, IsOfPorts, IsUsed, IsInference}
 use Rattle.circuit_model.proofs.Inferences.{word_fits, Forces-of_ports}
 use Rattle.component_models.specs.Asking.{HasOpenPort}
-
--- a tuple that matches has each known word
-Matches-at : (known : List (Option ℕ)) (t : List ℕ) (p v : ℕ) → Matches known t → slice_get known p ≡ Some (Some v) → slice_get t p ≡ Some v
-Matches-at [] t p v m e = cc
-Matches-at (None ∷ known) [] zero v m e = cc
-Matches-at (None ∷ known) [] (suc p) v m e = Matches-at known [] p v m e
-Matches-at (Some x ∷ known) [] p v m e = absurd m
-Matches-at (None ∷ known) (u ∷ t) zero v m e = cc
-Matches-at (None ∷ known) (u ∷ t) (suc p) v m e = Matches-at known t p v m e
-Matches-at (Some x ∷ known) (u ∷ t) zero v m e = let same : u ≡ x = m.0 in cc
-Matches-at (Some x ∷ known) (u ∷ t) (suc p) v m e = Matches-at known t p v m.1 e
+use Rattle.propagation.proofs.Matching.{Matches-at}
 
 module _ (prim : Primitive) (widths : List ℕ) (known : List (Option ℕ)) where
   matched_words_fit : (t : List ℕ) → IsTuple prim widths t → Matches known t → WordsFit widths known

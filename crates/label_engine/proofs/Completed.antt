@@ -1,7 +1,6 @@
 -- Unions that contain a nogood by one of their slots.
 use Rattle.std.proofs.Common.{◌≡◌, ℕ, inl, inr, ◌==◌, None, IsTrue, sym, ap, subst, ◌∙◌, List, arith}
-use Rattle.std.proofs.lemmas.Bool.{or_cases, or_left, or_right}
-use Rattle.std.proofs.lemmas.Bool.Decides.{nat_tests}
+use Rattle.std.proofs.lemmas.Bool.{or_cases, or_left, or_right, eqb-true}
 use Rattle.environment_sets.specs.declared.environment.Env.{Env}
 use Rattle.environment_sets.specs.Sets.{Set, ◌∪◌, Hits}
 use Rattle.environment_sets.specs.Members.{members, HasMember}
@@ -27,13 +26,10 @@ completed_union item nogoods slots E begun d begins joined complete (n, in_slots
           let has : IsTrue ((members begun.env ∪ E) k) =
           elim (or_cases (members item.env k) (k == n) (found.2 k there)) [
             | inl own ↦ or_left (members begun.env k) (E k) (ap (λ (F : Set ℕ). F k) begins.joined ∙ or_left (members item.env k) (made_by item.inferred.maker k) own)
-            | inr same ↦ let at : k ≡ n = equal k n same in or_right (members begun.env k) (E k) (subst (λ (m : ℕ). IsTrue (E m)) (sym at) in_other)
+            | inr same ↦ let at : k ≡ n = eqb-true k n same in or_right (members begun.env k) (E k) (subst (λ (m : ℕ). IsTrue (E m)) (sym at) in_other)
           ] in
           ap (λ (F : Set ℕ). F k) joined ∙ has,
     )
-  where
-    equal : (a b : ℕ) → IsTrue (a == b) → a ≡ b
-    equal a b h = grind (arith, nat_tests)
 
 -- a nogood that lacks the slot stays where the two keep the same without it
 pub stays_completing : (slot now : ℕ) (old new : Nodes) (c : Completing) → AgreeWithout slot (KeptIn old) (KeptIn new) → now ≡ slot → StaysCompleting slot old c → StaysCompleting now new c
