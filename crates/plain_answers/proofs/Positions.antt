@@ -192,7 +192,7 @@ repaired_or_not s E F b are decided = by_answer b (subst (λ (C : Set ℕ). IsDe
 -- no components yet
 pub others_none : (E F : Set Place) → IsEmpty F → AreOthersBelow 0 E F
 others_none E F empty = record {
-  parts = λ k. same_bool (F (AtPart k)) (nat_lt k 0 && not (E (AtPart k))) (λ h. absurd (empty (AtPart k) h)) (λ h. let low = ltb-true 0 E k 0 (and_parts (nat_lt k 0) (not (E (AtPart k))) h).0 in absurd (omega arith));
+  parts = λ k. same_bool (F (AtPart k)) (nat_lt k 0 && not (E (AtPart k))) (λ h. absurd (empty (AtPart k) h)) (λ h. let low = ltb-true k 0 (and_parts (nat_lt k 0) (not (E (AtPart k))) h).0 in absurd (omega arith));
   cells = λ c. same_bool (F (AtCell c)) false (λ h. absurd (empty (AtCell c) h)) (λ h. absurd (true≢false (sym h)));
 }
 
