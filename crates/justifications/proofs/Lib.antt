@@ -1,0 +1,5 @@
+pub mod Rosters
+pub mod Chaining
+pub mod Tables
+pub mod Keeping
+pub mod Lanes
