@@ -1,12 +1,11 @@
 -- Records that stay chained while one is added or removed.
-use Rattle.std.proofs.Common.{◌≡◌, ◌≢◌, ℕ, ◌≤◌, true≢false, refl, sym, ap, subst, ◌∙◌, List, [], length, Option, Some, None, IsSome, arith}
+use Rattle.std.proofs.Common.{◌≡◌, ℕ, true≢false, refl, sym, ap, subst, ◌∙◌, List, [], length, Option, Some, None, IsSome, arith}
 use Rattle.std.proofs.lemmas.List.{get_or_past}
 use Rattle.environment_sets.specs.Lists.{IsIn, IsRoster}
-use Rattle.environment_sets.proofs.Listings.{none_is_not}
-use Rattle.index_lists.specs.Lists.{Lists, list_at, without}
+use Rattle.index_lists.specs.Lists.{Lists, list_at}
 use Rattle.index_lists.specs.Chains.{Records, record_at, lane_at, keys_in}
 use Rattle.index_lists.proofs.Links.{none_is_no_some}
-use Rattle.justifications.specs.Chained.{with_key, said_by, AreAllChained, AreAlike, IsAdded, IsRemoved}
+use Rattle.justifications.specs.Chained.{said_by, AreAllChained, AreAlike, IsAdded, IsRemoved}
 use Rattle.justifications.proofs.Rosters.{roster_of, roster_none, put_roster, cut_roster}
 
 pub some_is : {T : Type 0} (o : Option T) → IsSome o → (x : T) × (o ≡ Some x)

@@ -1,11 +1,11 @@
 -- Lanes that are changed one after another.
-use Rattle.std.proofs.Common.{◌≡◌, ◌≢◌, ◌⊎◌, ℕ, zero, suc, ◌+◌, ◌<◌, ◌≤◌, inl, inr, true, false, ◌==◌, not, cond, true≢false, refl, sym, ap, subst, ◌∙◌, List, [], ◌∷◌, ◌++◌, length, Option, Some, None, IsSome, IfSome, arith}
+use Rattle.std.proofs.Common.{◌≡◌, ◌≢◌, ◌⊎◌, ℕ, zero, suc, ◌+◌, ◌<◌, ◌≤◌, inl, inr, true, false, ◌==◌, not, cond, true≢false, refl, sym, ap, subst, ◌∙◌, List, [], ◌∷◌, ◌++◌, length, Option, Some, None, IfSome, arith}
 use Rattle.std.proofs.lemmas.Bool.Decides.{nat_tests}
 use Rattle.environment_sets.specs.Lists.{IsIn}
 use Rattle.environment_sets.proofs.Listings.{IsIn-filter}
 use Rattle.index_lists.specs.Lists.{Lists, list_at, first_of, next_in, without, AreSame, Changes}
-use Rattle.index_lists.specs.Chains.{Records, record_at, lane_at, keys_in}
-use Rattle.index_lists.proofs.Links.{none_is_no_some, same_some, same_or_not}
+use Rattle.index_lists.specs.Chains.{Records, lane_at, keys_in}
+use Rattle.index_lists.proofs.Links.{none_is_no_some, same_or_not}
 use Rattle.justifications.specs.declared.model.Inferred.{Inferred}
 use Rattle.justifications.specs.Chained.{with_key}
 use Rattle.justifications.specs.Woven.{head_of_inferred}
@@ -52,8 +52,8 @@ none_past (suc (suc zero)) x past = absurd (omega arith)
 none_past (suc (suc (suc zero))) x past = absurd (omega arith)
 none_past (suc (suc (suc (suc lane)))) x past = refl
 
-cases_four : (l : ℕ) → (l < 4) ⊎ (4 ≤ l)
-cases_four l = grind arith
+cases_at : (n l : ℕ) → (l < n) ⊎ (n ≤ l)
+cases_at n l = grind arith
 
 module _ (old now new : Records Inferred) (change : ℕ → ℕ → List ℕ → List ℕ) where
   pub changed_next : (lane : ℕ) → AreChanged old now change lane → new.records ≡ now.records → ((h : ℕ) → keys_in new lane h ≡ change lane h (keys_in now lane h)) → ((l : ℕ) → l ≢ lane → lane_at new l ≡ lane_at now l) → AreChanged old new change (lane + 1)
@@ -76,10 +76,10 @@ module _ (old now : Records Inferred) (change : ℕ → ℕ → List ℕ → Lis
     rest = λ l past. ap (λ (s : Records Inferred). lane_at s l) e;
   }
 
-  pub changed_all : AreChanged old now change 4 → ((l h : ℕ) → 4 ≤ l → change l h (keys_in old l h) ≡ keys_in old l h) → (l h : ℕ) → keys_in now l h ≡ change l h (keys_in old l h)
-  changed_all was past l h = elim (cases_four l) [
+  pub changed_all : (lane : ℕ) → 4 ≤ lane → AreChanged old now change lane → ((l h : ℕ) → 4 ≤ l → change l h (keys_in old l h) ≡ keys_in old l h) → (l h : ℕ) → keys_in now l h ≡ change l h (keys_in old l h)
+  changed_all lane all was past l h = elim (cases_at lane l) [
     | inl low ↦ was.done l low h
-    | inr high ↦ ap (λ (s : Lists). list_at s h) (was.rest l high) ∙ sym (past l h high)
+    | inr high ↦ ap (λ (s : Lists). list_at s h) (was.rest l high) ∙ sym (past l h (omega (arith, all, high)))
   ]
 
 module _ (old now : Records Inferred) (x : Inferred) where
@@ -90,10 +90,10 @@ module _ (old now : Records Inferred) (x : Inferred) where
     made = λ l low. absurd (omega arith);
   }
 
-  pub made_all : AreMade old now x 4 → (l : ℕ) → IfSome (head_of_inferred l x) (λ h. h < length (lane_at now l).lists)
-  made_all m l = elim (cases_four l) [
+  pub made_all : (lane : ℕ) → 4 ≤ lane → AreMade old now x lane → (l : ℕ) → IfSome (head_of_inferred l x) (λ h. h < length (lane_at now l).lists)
+  made_all lane all m l = elim (cases_at lane l) [
     | inl low ↦ m.made l low
-    | inr high ↦ let P : Option ℕ → Type 0 = λ o. IfSome o (λ h. h < length (lane_at now l).lists) in subst P (sym (none_past l x high)) tt
+    | inr high ↦ let P : Option ℕ → Type 0 = λ o. IfSome o (λ h. h < length (lane_at now l).lists) in subst P (sym (none_past l x (omega (arith, all, high)))) tt
   ]
 
 module _ (old now new : Records Inferred) (x : Inferred) (lane : ℕ) (was : AreMade old now x lane) (records : new.records ≡ now.records) (same : AreSame (lane_at now lane) (lane_at new lane)) (others : (l : ℕ) → l ≢ lane → lane_at new l ≡ lane_at now l) where

@@ -3,3 +3,7 @@ pub mod Chaining
 pub mod Tables
 pub mod Keeping
 pub mod Lanes
+pub mod Uses
+pub mod Dropping
+pub mod Removing
+pub mod Told

@@ -1,7 +1,7 @@
 -- Lists of exactly what has a property, in which one number is put or of which one is taken.
-use Rattle.std.proofs.Common.{◌≡◌, ◌≢◌, ℕ, inl, inr, true, false, ◌==◌, not, cond, IsTrue, true≢false, refl, sym, ap, subst, ◌∙◌, List, [], ◌∷◌, filter, Option, Some, None, arith}
+use Rattle.std.proofs.Common.{◌≡◌, ◌≢◌, ℕ, inl, inr, true, false, ◌==◌, not, cond, true≢false, sym, ap, subst, ◌∙◌, List, [], ◌∷◌, Option, Some, None, arith}
 use Rattle.std.proofs.lemmas.Bool.Decides.{nat_tests}
-use Rattle.environment_sets.specs.Lists.{IsIn, AreDistinct, IsRoster}
+use Rattle.environment_sets.specs.Lists.{IsIn, IsRoster}
 use Rattle.environment_sets.proofs.Listings.{IsIn-filter, IsIn-kept, IsRising-filter}
 use Rattle.index_lists.specs.Lists.{without}
 use Rattle.index_lists.proofs.Links.{none_is_no_some, same_some, same_or_not}

@@ -1,5 +1,5 @@
 -- What a table of numbers under facts has.
-use Rattle.std.proofs.Common.{◌≡◌, ◌≢◌, ◌⊎◌, ℕ, ◌==◌, ◌&&◌, inl, inr, Bool, true, false, cond, refl, sym, ap, subst, ◌∙◌, List, [], Option, Some, None, arith}
+use Rattle.std.proofs.Common.{◌≡◌, ◌≢◌, ◌⊎◌, ℕ, ◌==◌, ◌&&◌, inl, inr, true, false, cond, refl, sym, ap, subst, ◌∙◌, List, [], Option, Some, None}
 use Rattle.std.specs.Map.{lookup}
 use Rattle.std.proofs.lemmas.Bool.{and_parts, and_from, eqb-true, eq-eqb, false_from_ne_true}
 use Rattle.circuit_model.specs.declared.model.Fact.{Fact}

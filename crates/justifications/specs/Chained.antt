@@ -1,5 +1,5 @@
 -- Records in chains: in each lane a record stands in the list of the head that it says, and in no other.
-use Rattle.std.specs.Prelude.{◌≡◌, ℕ, ◌==◌, if◌then◌else◌, List, ◌∷◌, Option, Some, None}
+use Rattle.std.specs.Prelude.{◌≡◌, ℕ, ◌==◌, if◌then◌else◌, List, ◌∷◌, filter, is_some, Option, Some, None}
 use Rattle.environment_sets.specs.Lists.{IsRoster}
 use Rattle.index_lists.specs.Lists.{Lists, list_at, without}
 use Rattle.index_lists.specs.Chains.{Records, record_at, lane_at, keys_in}
@@ -40,3 +40,9 @@ module _ {T : Type 0} where
     pub gone : record_at new key ≡ None
     pub others : (k : ℕ) → (k ≡ key → ⊥) → record_at new k ≡ record_at old k
     pub keys : (lane head : ℕ) → keys_in new lane head ≡ without key (keys_in old lane head)
+
+  -- what has the property has no record any more; all else is as before, and lists keep their order
+  pub record AreDropped (P : T → Type 0) (old new : Records T) : Type 0 where
+    pub gone : (key : ℕ) (x : T) → record_at old key ≡ Some x → P x → record_at new key ≡ None
+    pub others : (key : ℕ) → ((x : T) → record_at old key ≡ Some x → P x → ⊥) → record_at new key ≡ record_at old key
+    pub keys : (lane head : ℕ) → keys_in new lane head ≡ filter (λ key. is_some (record_at new key)) (keys_in old lane head)

@@ -1,13 +1,13 @@
 -- How nodes are found by their facts. No public clause cites this module.
-use Rattle.std.specs.Prelude.{◌≡◌, ℕ, ◌==◌, ◌&&◌, ◌<◌, ◌≤◌, Bool, List, length, Option, Some, None, IsSome, IfSome}
+use Rattle.std.specs.Prelude.{◌≡◌, ◌⊎◌, ℕ, ◌==◌, ◌&&◌, ◌<◌, ◌≤◌, Bool, List, length, filter, is_some, Option, Some, None, IsSome, IfSome}
 use Rattle.std.specs.Map.{lookup}
 use Rattle.circuit_model.specs.declared.model.Fact.{Fact}
 use Rattle.index_lists.specs.Chains.{Records, record_at, lane_at, keys_in}
 use Rattle.justifications.specs.declared.model.Inferred.{Inferred}
 use Rattle.justifications.specs.declared.model.TheConstants.{MOST_NODES}
 use Rattle.justifications.specs.declared.table.Named.{Named}
-use Rattle.justifications.specs.Chained.{AreAllChained}
-use Rattle.justifications.specs.Woven.{Woven, IsCell, IsFit, fact_at, inferred_at, head_of_fact, head_of_inferred}
+use Rattle.justifications.specs.Chained.{AreAllChained, said_by}
+use Rattle.justifications.specs.Woven.{Woven, IsCell, IsFit, inferred_at, head_of_fact, head_of_inferred}
 
 -- the key of a fact
 abbrev pub key_of : Fact → Named
@@ -63,3 +63,10 @@ pub record AreChanged (old now : Records Inferred) (change : ℕ → ℕ → Lis
   pub records : now.records ≡ old.records
   pub done : (l : ℕ) → l < lane → (head : ℕ) → keys_in now l head ≡ change l head (keys_in old l head)
   pub rest : (l : ℕ) → lane ≤ l → lane_at now l ≡ lane_at old l
+
+-- while those that say the head are dropped: each is as before or was one of them, and all is in its lists
+pub record AreDropping (old now : Records Inferred) (lane head : ℕ) : Type 0 where
+  pub chained : AreAllChained head_of_inferred now
+  pub low : (key : ℕ) → IfSome (record_at now key) IsLow
+  pub left : (key : ℕ) → (record_at now key ≡ record_at old key) ⊎ ((record_at now key ≡ None) × (said_by (head_of_inferred lane) (record_at old key) ≡ Some head))
+  pub keys : (l h : ℕ) → keys_in now l h ≡ filter (λ key. is_some (record_at now key)) (keys_in old l h)

@@ -1,7 +1,5 @@
 -- Nodes and recorded inferences (de Kleer 1986), as contracts see them.
-use Rattle.std.specs.Prelude.{◌≡◌, ◌⊎◌, ℕ, zero, suc, ◌+◌, ◌*◌, ◌<◌, List, ◌++◌, Option, Some, None, IsSome, IfSome, slice_index_or}
-use Rattle.std.specs.Option.{ForSome}
-use Rattle.std.specs.Coded.{Coded, code_by, coded×, coded_ℕ, coded_list, coded_option}
+use Rattle.std.specs.Prelude.{◌≡◌, ◌⊎◌, ℕ, zero, suc, ◌+◌, ◌*◌, ◌<◌, List, ◌++◌, Option, Some, None, IsSome, IfSome, IsSomeAnd, slice_index_or}
 use Rattle.environment_sets.specs.Lists.{IsRoster}
 use Rattle.environment_sets.specs.declared.environment.TheConstants.{SLOTS}
 use Rattle.circuit_model.specs.declared.model.Cell.{Cell}
@@ -95,7 +93,8 @@ IsThere w (Node n) = IsSome (fact_at w n.place)
 
 -- an inference names nodes that are there, goes from each once, and its maker is a slot
 pub record IsFit (w : Woven) (x : Inferred) : Type 0 where
-  pub antecedents : (place n : ℕ) → antecedent place x ≡ Some n → IsSome (fact_at w n)
+  pub first : (n : ℕ) → antecedent 0 x ≡ Some n → IsSome (fact_at w n)
+  pub second : (n : ℕ) → antecedent 1 x ≡ Some n → IsSome (fact_at w n)
   pub once : (n : ℕ) → antecedent 0 x ≡ Some n → antecedent 1 x ≡ Some n → ⊥
   pub to : IsThere w x.to
   pub maker : IfSome x.maker (λ slot. slot < SLOTS)
@@ -115,7 +114,7 @@ pub record IsWoven (w : Woven) : Type 0 where
   pub cells : (n : ℕ) (fact : Fact) → fact_at w n ≡ Some fact → IsCell fact.cell
   pub numbers : (n : ℕ) → IsSome (fact_at w n) → n < MOST_NODES
   pub fit : (j : ℕ) (x : Inferred) → inferred_at w j ≡ Some x → IsFit w x
-  pub nodes : (cell : Cell) → IsCell cell → IsRoster (λ n. ForSome (fact_at w n) (λ fact. fact.cell ≡ cell)) (nodes_at w cell)
-  pub uses : (n : ℕ) → IsRoster (λ j. ForSome (inferred_at w j) (GoesFrom n)) (uses_of w n)
-  pub supports : (target : Target) → IsRoster (λ j. ForSome (inferred_at w j) (λ x. x.to ≡ target)) (supports_of w target)
-  pub made : (slot : ℕ) → IsRoster (λ j. ForSome (inferred_at w j) (λ x. x.maker ≡ Some slot)) (made_by w slot)
+  pub nodes : (cell : Cell) → IsCell cell → IsRoster (λ n. IsSomeAnd (fact_at w n) (λ fact. fact.cell ≡ cell)) (nodes_at w cell)
+  pub uses : (n : ℕ) → IsRoster (λ j. IsSomeAnd (inferred_at w j) (GoesFrom n)) (uses_of w n)
+  pub supports : (target : Target) → IsRoster (λ j. IsSomeAnd (inferred_at w j) (λ x. x.to ≡ target)) (supports_of w target)
+  pub made : (slot : ℕ) → IsRoster (λ j. IsSomeAnd (inferred_at w j) (λ x. x.maker ≡ Some slot)) (made_by w slot)

@@ -1,10 +1,10 @@
 // The chains of recorded inferences.
-ghost use Rattle.std.specs.Prelude.{◌≡◌, ◌≢◌, ◌<◌, ◌≤◌, ◌↔◌, ◌++◌, ℕ, length, Some, None, IsSome, IfSome, IfOk, OnOk, OnErr, slice_index_or};
+ghost use Rattle.std.specs.Prelude.{◌≡◌, ◌≢◌, ◌<◌, ◌≤◌, ◌↔◌, ◌++◌, ℕ, length, Some, None, IsSome, IfSome, IfOk, IsTrue, OnOk, OnErr, slice_index_or};
 ghost use Rattle.environment_sets.specs.Lists.{IsIn};
 ghost use Rattle.index_lists.specs.Lists.{AreSame, IsInNone, IsInSome, first_of, next_in, without};
 ghost use Rattle.index_lists.specs.Chains.{record_at, lane_at, keys_in, IsInNoLane};
-ghost use Rattle.justifications.specs.Chained.{AreAlike, AreAllChained, IsAdded, IsRemoved, with_key};
-ghost use Rattle.justifications.specs.Woven.{number_of, name_of, place_of_target, head_of_inferred};
+ghost use Rattle.justifications.specs.Chained.{AreAlike, AreAllChained, IsAdded, IsRemoved, AreDropped, with_key};
+ghost use Rattle.justifications.specs.Woven.{number_of, name_of, place_of_target, head_of_inferred, GoesFrom};
 ghost use Rattle.justifications.specs.Kept.{IsLow};
 
 use crate::model::{Inferred, JustId, MOST_NODES, NodeId, Target};
@@ -193,4 +193,66 @@ pub(crate) fn behind_in(chains: &Chains<Inferred>, lane: u8, just: JustId) -> Op
         Some(key) => Some(JustId { place: key.place }),
         None => None,
     }
+}
+
+// Whether the first antecedent is the node.
+fn is_first_antecedent(from: [Option<NodeId>; 2], node: usize) -> bool
+    ensures { IsTrue result ↔ (number_of (slice_index_or from 0 None) ≡ Some node) }
+{
+    match from[0] {
+        Some(first) => first.place == node,
+        None => false,
+    }
+}
+
+// The first inference that goes from the node.
+pub(crate) fn first_use_in(chains: &Chains<Inferred>, node: usize) -> Option<JustId>
+    ensures { name_of result ≡ first_of (keys_in chains.now 0 node ++ keys_in chains.now 1 node) }
+{
+    if let Some(just) = first_in(chains, 0, node) {
+        return Some(just);
+    }
+    first_in(chains, 1, node)
+}
+
+// The inference behind this one among those that go from the node.
+pub(crate) fn next_use_in(chains: &Chains<Inferred>, node: usize, just: JustId) -> Option<JustId>
+    requires chained { AreAllChained head_of_inferred chains.now }
+    requires listed { IsIn (keys_in chains.now 0 node ++ keys_in chains.now 1 node) just.place }
+    ensures { name_of result ≡ next_in (keys_in chains.now 0 node ++ keys_in chains.now 1 node) just.place }
+{
+    let inferred = *chains.get(Key { place: just.place });
+    if !is_first_antecedent(inferred.from, node) {
+        return behind_in(chains, 1, just);
+    }
+    if let Some(next) = behind_in(chains, 0, just) {
+        return Some(next);
+    }
+    first_in(chains, 1, node)
+}
+
+// Exactly those that say the head in the lane are removed, in a walk over their list alone.
+pub(crate) fn drop_all_in(chains: &mut Chains<Inferred>, lane: u8, head: usize)
+    requires lane { lane < 4 }
+    requires chained { AreAllChained head_of_inferred chains.old }
+    requires low { (key : ℕ) → IfSome (record_at chains.old key) IsLow }
+    ensures dropped { AreDropped (λ x. head_of_inferred lane x ≡ Some head) chains.old chains.new }
+    ensures chained { AreAllChained head_of_inferred chains.new }
+    ensures stay { (key : ℕ) → IsSome (record_at chains.new key) → record_at chains.new key ≡ record_at chains.old key }
+{
+    while let Some(just) = first_in(chains, lane, head) {
+        remove_from(chains, just);
+    }
+}
+
+// Exactly those that go from the node are removed.
+pub(crate) fn drop_uses_in(chains: &mut Chains<Inferred>, node: usize)
+    requires chained { AreAllChained head_of_inferred chains.old }
+    requires low { (key : ℕ) → IfSome (record_at chains.old key) IsLow }
+    ensures dropped { AreDropped (GoesFrom node) chains.old chains.new }
+    ensures chained { AreAllChained head_of_inferred chains.new }
+    ensures stay { (key : ℕ) → IsSome (record_at chains.new key) → record_at chains.new key ≡ record_at chains.old key }
+{
+    drop_all_in(chains, 0, node);
+    drop_all_in(chains, 1, node);
 }

@@ -1,12 +1,12 @@
 // The nodes of facts.
-ghost use Rattle.std.specs.Prelude.{◌≡◌, ◌<◌, ℕ, Some, None, IfOk, OnErr};
+ghost use Rattle.std.specs.Prelude.{◌≡◌, ◌<◌, ℕ, Some, None, IsSome, IfOk, OnErr};
 ghost use Rattle.index_lists.specs.Chains.{record_at, HaveSameLists, Has, IsInNoLane};
-ghost use Rattle.justifications.specs.Chained.{AreAlike, IsAdded};
+ghost use Rattle.justifications.specs.Chained.{AreAlike, AreAllChained, IsAdded, IsRemoved};
 ghost use Rattle.justifications.specs.Woven.{IsCell, place_of_cell, head_of_fact};
 ghost use Rattle.justifications.specs.Kept.{number_in, IsEntered};
 
 use crate::model::{MOST_NODES, NodeId};
-use crate::table::{Named, enter};
+use crate::table::{Named, enter, strike};
 use circuit_model::limits::MOST_CYCLES;
 use circuit_model::{Cell, Fact};
 use index_lists::{Chains, Key};
@@ -63,4 +63,22 @@ pub(crate) fn add_node(
     }
     facts.link(key, 0, head);
     Ok(NodeId { place: key.place })
+}
+
+// One node less. It takes no memory.
+pub(crate) fn remove_node(
+    facts: &mut Chains<Fact>,
+    table: &mut IndexMap<Named, usize>,
+    node: NodeId,
+)
+    requires there { IsSome (record_at facts.old node.place) }
+    requires chained { AreAllChained head_of_fact facts.old }
+    ensures removed { IsRemoved facts.old facts.new node.place }
+    ensures struck { (fact : Fact) → record_at facts.old node.place ≡ Some fact → IsEntered table.old.entries table.new.entries fact None }
+{
+    let key = Key { place: node.place };
+    let fact = *facts.get(key);
+    facts.unlink(key, 0);
+    strike(table, &fact);
+    facts.take(key);
 }

@@ -1,5 +1,4 @@
-use Rattle.std.proofs.Common.{Some, subst, sym}
-use Rattle.justifications.specs.Kept.{key_of}
+use Rattle.std.proofs.Common.{Some}
 use Rattle.justifications.proofs.Tables.{entered_of}
 use Rattle.justifications.proofs.table.enter.Goals as goal
 
