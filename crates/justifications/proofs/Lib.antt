@@ -7,3 +7,4 @@ pub mod Uses
 pub mod Dropping
 pub mod Removing
 pub mod Told
+pub mod Calling
