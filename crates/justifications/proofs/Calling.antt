@@ -1,5 +1,5 @@
 -- What callers have of a walk, and of a node that was found or made.
-use Rattle.std.proofs.Common.{◌≡◌, ◌≢◌, ℕ, inl, inr, true, false, ◌==◌, cond, refl, sym, ap, subst, ◌∙◌, List, [], ◌∷◌, Option, Some, None, Ok, Err, Result, IfOk, OnErr, IsSome, arith}
+use Rattle.std.proofs.Common.{◌≡◌, ℕ, inl, inr, true, false, ◌==◌, cond, refl, sym, ap, subst, ◌∙◌, List, [], ◌∷◌, Some, None, Ok, Err, Result, IfOk, OnErr, arith}
 use Rattle.std.proofs.lemmas.Bool.Decides.{nat_tests}
 use Rattle.std.specs.declared.alloc.AllocError.{AllocError}
 use Rattle.environment_sets.specs.Lists.{IsIn}
@@ -9,7 +9,6 @@ use Rattle.index_lists.proofs.Links.{none_is_no_some, same_some, same_or_not}
 use Rattle.justifications.specs.declared.model.NodeId.{NodeId}
 use Rattle.justifications.specs.Woven.{Woven, fact_at, Finds}
 use Rattle.justifications.specs.Chained.{AreAlike}
-use Rattle.justifications.proofs.Chaining.{is_some_of}
 
 -- where there is no first, there is none
 pub none_listed : (xs : List ℕ) → first_of xs ≡ None → xs ≡ []

@@ -11,6 +11,7 @@ use Rattle.justifications.specs.Woven.{head_of_inferred}
 use Rattle.justifications.specs.Kept.{IsLow, AreDropping}
 use Rattle.justifications.proofs.Chaining.{is_some_of, removed_chained, stands}
 use Rattle.justifications.proofs.Uses.{listed_is}
+use Rattle.justifications.proofs.Calling.{first_listed}
 
 -- lists of which all pass
 pub filter_all : (p : ℕ → Bool) (xs : List ℕ) → ((k : ℕ) → IsIn xs k → p k ≡ true) → xs ≡ filter p xs
@@ -64,10 +65,6 @@ shorter key (x ∷ xs) e =
     let here : length (without key (x ∷ xs)) ≡ length (without key xs) = ap (λ b. length (cond (not b) (x ∷ without key xs) (without key xs))) is in
     omega (arith, rest, here)
 
-pub first_is_in : (xs : List ℕ) (key : ℕ) → first_of xs ≡ Some key → IsIn xs key
-first_is_in [] key e = absurd (none_is_no_some key e)
-first_is_in (x ∷ xs) key e = inl (same_some x key e)
-
 none_in : (xs : List ℕ) → first_of xs ≡ None → (k : ℕ) → IsIn xs k → ⊥
 none_in [] e k i = i
 none_in (x ∷ xs) e k i = none_is_no_some x (sym e)
@@ -84,7 +81,7 @@ module _ (old : Records Inferred) (lane head : ℕ) where
   module _ (now : Records Inferred) (d : AreDropping old now lane head) where
     pub dropping_next : (new : Records Inferred) (key : ℕ) → first_of (keys_in now lane head) ≡ Some key → IsRemoved now new key → AreDropping old new lane head
     dropping_next new key first a =
-        let it = listed_is head_of_inferred now d.chained lane head key (first_is_in (keys_in now lane head) key first) in
+        let it = listed_is head_of_inferred now d.chained lane head key (first_listed (keys_in now lane head) key first) in
         let was : said_by (head_of_inferred lane) (record_at old key) ≡ Some head = elim (d.left key) [
           | inl same ↦ ap (λ (o : Option Inferred). said_by (head_of_inferred lane) o) (sym same ∙ it.1) ∙ it.2
           | inr gone ↦ gone.1
