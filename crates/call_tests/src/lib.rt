@@ -10,6 +10,8 @@ mod engine;
 #[cfg(test)]
 mod hitting;
 #[cfg(test)]
+mod inferences;
+#[cfg(test)]
 mod sets;
 #[cfg(test)]
 mod standing;

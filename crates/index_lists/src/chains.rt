@@ -118,10 +118,9 @@ impl<T> Chains<T> {
         self.items.get(key.place).unwrap()
     }
 
-    /// The first key of the head in the lane.
+    /// The first key of the head in the lane; a head that was not made has none.
     pub fn first(&self, lane: u8, head: usize) -> Option<Key>
         requires lane { lane < 4 }
-        requires made { head < length (lane_at self.now lane).lists }
         ensures { MatchOption result (first_of (keys_in self.now lane head) ≡ None) (λ key. first_of (keys_in self.now lane head) ≡ Some key.place) }
     {
         match self.lanes[lane as usize].first(head) {

@@ -104,6 +104,16 @@ fn cut_out(firsts: &mut [Option<usize>], places: &mut [Option<Place>], key: usiz
     set_first(firsts, place.before, place.head, place.after);
 }
 
+// The first key of the head, if it has one.
+fn first_in(firsts: &[Option<usize>], head: usize) -> Option<usize>
+    ensures { result ≡ first_at firsts.now head }
+{
+    match firsts.get(head) {
+        Some(first) => *first,
+        None => None,
+    }
+}
+
 // The place of a key that has one.
 fn place_of(places: &[Option<Place>], key: usize) -> Place
     requires { IsSome (place_at places.now key) }
@@ -170,12 +180,11 @@ impl Lane {
         cut_out(&mut self.firsts, &mut self.places, key, place);
     }
 
-    /// The first key of the head.
+    /// The first key of the head, if it has one.
     pub fn first(&self, head: usize) -> Option<usize>
-        requires { head < length self.now.lists }
         ensures { result ≡ first_of (list_at self.now head) }
     {
-        self.firsts[head]
+        first_in(&self.firsts, head)
     }
 
     /// The key behind this one in its list.

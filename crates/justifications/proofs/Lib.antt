@@ -1,0 +1,10 @@
+pub mod Rosters
+pub mod Chaining
+pub mod Tables
+pub mod Keeping
+pub mod Lanes
+pub mod Uses
+pub mod Dropping
+pub mod Removing
+pub mod Told
+pub mod Calling
