@@ -16,7 +16,7 @@ pub same_some : {A : Type 0} (x y : A) → Some x ≡ Some y → x ≡ y
 same_some x y e = cc
 
 -- taking one number away
-without_absent : (key : ℕ) (keys : List ℕ) → (IsIn keys key → ⊥) → without key keys ≡ keys
+pub without_absent : (key : ℕ) (keys : List ℕ) → (IsIn keys key → ⊥) → without key keys ≡ keys
 without_absent key [] out = refl
 without_absent key (k ∷ keys) out =
     elim (k == key) as (λ b. (k == key) ≡ b → cond (not b) (k ∷ without key keys) (without key keys) ≡ k ∷ keys) [
@@ -47,7 +47,7 @@ length-without key (k ∷ keys) d = elim (cases_eq k key) [
 pub left_in : (key k : ℕ) (keys : List ℕ) → IsIn (without key keys) k → IsIn keys k
 left_in key k keys h = (IsIn-filter (λ j. not (j == key)) keys k h).0
 
-not_itself : (key : ℕ) (keys : List ℕ) → IsIn (without key keys) key → ⊥
+pub not_itself : (key : ℕ) (keys : List ℕ) → IsIn (without key keys) key → ⊥
 not_itself key keys h =
     let is : (key == key) ≡ true = grind (arith, nat_tests) in
     let out : IsTrue (not (key == key)) = (IsIn-filter (λ j. not (j == key)) keys key h).1 in

@@ -1,11 +1,12 @@
 -- What callers have of a walk, and of a node that was found or made.
 use Rattle.std.proofs.Common.{◌≡◌, ℕ, inl, inr, true, false, ◌==◌, cond, refl, sym, ap, subst, ◌∙◌, List, [], ◌∷◌, Some, None, Ok, Err, Result, IfOk, OnErr, arith}
+use Rattle.std.proofs.lemmas.Bool.{cases_eq}
 use Rattle.std.proofs.lemmas.Bool.Decides.{nat_tests}
 use Rattle.std.specs.declared.alloc.AllocError.{AllocError}
 use Rattle.environment_sets.specs.Lists.{IsIn}
 use Rattle.circuit_model.specs.declared.model.Fact.{Fact}
 use Rattle.index_lists.specs.Lists.{first_of, next_in}
-use Rattle.index_lists.proofs.Links.{none_is_no_some, same_some, same_or_not}
+use Rattle.index_lists.proofs.Links.{none_is_no_some, same_some, first_in_it}
 use Rattle.justifications.specs.declared.model.NodeId.{NodeId}
 use Rattle.justifications.specs.Woven.{Woven, fact_at, Finds}
 use Rattle.justifications.specs.Chained.{AreAlike}
@@ -15,18 +16,13 @@ pub none_listed : (xs : List ℕ) → first_of xs ≡ None → xs ≡ []
 none_listed [] e = refl
 none_listed (x ∷ xs) e = absurd (none_is_no_some x (sym e))
 
--- the first stands in the list
-pub first_listed : (xs : List ℕ) (k : ℕ) → first_of xs ≡ Some k → IsIn xs k
-first_listed [] k e = absurd (none_is_no_some k e)
-first_listed (x ∷ xs) k e = inl (same_some x k e)
-
 -- the next stands in the list
 pub next_listed : (xs : List ℕ) (key k : ℕ) → next_in xs key ≡ Some k → IsIn xs k
 next_listed [] key k e = absurd (none_is_no_some k e)
-next_listed (x ∷ xs) key k e = elim (same_or_not x key) [
+next_listed (x ∷ xs) key k e = elim (cases_eq x key) [
   | inl same ↦
       let is : (x == key) ≡ true = grind (arith, nat_tests) in
-      inr (first_listed xs k (sym (ap (λ b. cond b (first_of xs) (next_in xs key)) is) ∙ e))
+      inr (first_in_it xs k (sym (ap (λ b. cond b (first_of xs) (next_in xs key)) is) ∙ e))
   | inr ne ↦
       let out : (x == key) ≡ false = grind (arith, nat_tests) in
       inr (next_listed xs key k (sym (ap (λ b. cond b (first_of xs) (next_in xs key)) out) ∙ e))

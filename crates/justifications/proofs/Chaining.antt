@@ -5,15 +5,13 @@ use Rattle.environment_sets.specs.Lists.{IsIn, IsRoster}
 use Rattle.index_lists.specs.Lists.{Lists, list_at}
 use Rattle.index_lists.specs.Chains.{Records, record_at, lane_at, keys_in}
 use Rattle.index_lists.proofs.Links.{none_is_no_some}
+use Rattle.circuit_model.proofs.Renaming.{is_some_of}
 use Rattle.justifications.specs.Chained.{said_by, AreAllChained, AreAlike, IsAdded, IsRemoved}
 use Rattle.justifications.proofs.Rosters.{roster_of, roster_none, put_roster, cut_roster}
 
 pub some_is : {T : Type 0} (o : Option T) → IsSome o → (x : T) × (o ≡ Some x)
 some_is None s = absurd (true≢false (sym s))
 some_is (Some x) s = (x, refl)
-
-pub is_some_of : {T : Type 0} (o : Option T) (x : T) → o ≡ Some x → IsSome o
-is_some_of {T} o x e = let P : Option T → Type 0 = λ p. IsSome p in subst P (sym e) refl
 
 no_heads : (s : Lists) → length s.lists ≡ 0 → (head : ℕ) → list_at s head ≡ []
 no_heads s none head = get_or_past s.lists head [] (omega arith)

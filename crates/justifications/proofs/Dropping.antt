@@ -1,17 +1,18 @@
 -- Inferences that are dropped one after another.
 use Rattle.std.proofs.Common.{◌≡◌, ◌≢◌, ◌⊎◌, ℕ, ◌<◌, ◌≤◌, inl, inr, Bool, true, false, ◌==◌, not, cond, true≢false, refl, sym, ap, subst, ◌∙◌, List, [], ◌∷◌, length, filter, is_some, Option, Some, None, IsSome, IfSome, arith}
+use Rattle.std.proofs.lemmas.Bool.{cases_eq}
 use Rattle.std.proofs.lemmas.Bool.Decides.{nat_tests}
 use Rattle.environment_sets.specs.Lists.{IsIn}
 use Rattle.index_lists.specs.Lists.{first_of, without}
 use Rattle.index_lists.specs.Chains.{Records, record_at, keys_in}
-use Rattle.index_lists.proofs.Links.{none_is_no_some, same_some, same_or_not}
+use Rattle.index_lists.proofs.Links.{none_is_no_some, same_some, first_in_it}
+use Rattle.circuit_model.proofs.Renaming.{is_some_of}
 use Rattle.justifications.specs.declared.model.Inferred.{Inferred}
 use Rattle.justifications.specs.Chained.{said_by, AreAllChained, IsRemoved, AreDropped}
 use Rattle.justifications.specs.Woven.{head_of_inferred}
 use Rattle.justifications.specs.Kept.{IsLow, AreDropping}
-use Rattle.justifications.proofs.Chaining.{is_some_of, removed_chained, stands}
+use Rattle.justifications.proofs.Chaining.{removed_chained, stands}
 use Rattle.justifications.proofs.Uses.{listed_is}
-use Rattle.justifications.proofs.Calling.{first_listed}
 
 -- lists of which all pass
 pub filter_all : (p : ℕ → Bool) (xs : List ℕ) → ((k : ℕ) → IsIn xs k → p k ≡ true) → xs ≡ filter p xs
@@ -32,7 +33,7 @@ filter_twice p q less (x ∷ xs) =
 
 without_filter : (p q : ℕ → Bool) (key : ℕ) → q key ≡ false → ((k : ℕ) → k ≢ key → q k ≡ p k) → (xs : List ℕ) → without key (filter p xs) ≡ filter q xs
 without_filter p q key gone same [] = refl
-without_filter p q key gone same (x ∷ xs) = elim (same_or_not x key) [
+without_filter p q key gone same (x ∷ xs) = elim (cases_eq x key) [
   | inl e ↦
       let is : (x == key) ≡ true = grind (arith, nat_tests) in
       let q' : q x ≡ false = ap q e ∙ gone in
@@ -81,18 +82,18 @@ module _ (old : Records Inferred) (lane head : ℕ) where
   module _ (now : Records Inferred) (d : AreDropping old now lane head) where
     pub dropping_next : (new : Records Inferred) (key : ℕ) → first_of (keys_in now lane head) ≡ Some key → IsRemoved now new key → AreDropping old new lane head
     dropping_next new key first a =
-        let it = listed_is head_of_inferred now d.chained lane head key (first_listed (keys_in now lane head) key first) in
+        let it = listed_is head_of_inferred now d.chained lane head key (first_in_it (keys_in now lane head) key first) in
         let was : said_by (head_of_inferred lane) (record_at old key) ≡ Some head = elim (d.left key) [
           | inl same ↦ ap (λ (o : Option Inferred). said_by (head_of_inferred lane) o) (sym same ∙ it.1) ∙ it.2
           | inr gone ↦ gone.1
         ] in
         record {
           chained = removed_chained head_of_inferred now new d.chained key a;
-          low = λ k. elim (same_or_not k key) [
+          low = λ k. elim (cases_eq k key) [
             | inl e ↦ subst (λ (j : ℕ). IfSome (record_at new j) IsLow) (sym e) (let P : Option Inferred → Type 0 = λ o. IfSome o IsLow in subst P (sym a.gone) tt)
             | inr ne ↦ let P : Option Inferred → Type 0 = λ o. IfSome o IsLow in subst P (sym (a.others k ne)) (d.low k)
           ];
-          left = λ k. elim (same_or_not k key) [
+          left = λ k. elim (cases_eq k key) [
             | inl e ↦ subst (λ (j : ℕ). (record_at new j ≡ record_at old j) ⊎ ((record_at new j ≡ None) × (said_by (head_of_inferred lane) (record_at old j) ≡ Some head))) (sym e) (inr (a.gone, was))
             | inr ne ↦ elim (d.left k) [ inl same ↦ inl (a.others k ne ∙ same) | inr gone ↦ inr (a.others k ne ∙ gone.0, gone.1) ]
           ];

@@ -1,11 +1,13 @@
 -- What a weave keeps.
 use Rattle.std.proofs.Common.{◌≡◌, ℕ, zero, suc, ◌<◌, ◌≤◌, inl, inr, refl, sym, subst, ◌∙◌, List, [], length, Option, Some, None, Ok, Err, Result, IfOk, OnErr, IsSome, IfSome, arith}
+use Rattle.std.proofs.lemmas.Bool.{cases_eq}
 use Rattle.std.specs.declared.alloc.AllocError.{AllocError}
 use Rattle.environment_sets.specs.declared.environment.TheConstants.{SLOTS}
 use Rattle.circuit_model.specs.declared.model.Fact.{Fact}
+use Rattle.circuit_model.proofs.Renaming.{is_some_of}
 use Rattle.environment_sets.proofs.Listings.{none_is_not}
 use Rattle.index_lists.specs.Chains.{Records, record_at, lane_at}
-use Rattle.index_lists.proofs.Links.{none_is_no_some, same_some, same_or_not}
+use Rattle.index_lists.proofs.Links.{none_is_no_some, same_some}
 use Rattle.justifications.specs.declared.model.NodeId.{NodeId}
 use Rattle.justifications.specs.declared.model.JustId.{JustId}
 use Rattle.justifications.specs.declared.model.Target.{Target}
@@ -16,7 +18,7 @@ use Rattle.justifications.specs.declared.table.Named.{Named}
 use Rattle.justifications.specs.Chained.{AreAllChained, AreAlike, IsAdded, IsRemoved}
 use Rattle.justifications.specs.Woven.{Woven, fact_at, IsCell, IsThere, IsFit, antecedent, place_of_target, head_of_fact, head_of_inferred}
 use Rattle.justifications.specs.Kept.{number_in, IsLow, AreKept, IsEntered}
-use Rattle.justifications.proofs.Chaining.{is_some_of, nothing_chained, alike_chained, added_chained, removed_chained}
+use Rattle.justifications.proofs.Chaining.{nothing_chained, alike_chained, added_chained, removed_chained}
 use Rattle.justifications.proofs.Uses.{if_some_of}
 use Rattle.justifications.proofs.Tables.{told_added, told_alike, nothing_told}
 
@@ -51,18 +53,18 @@ module _ (entries entries' : List (Named × ℕ)) (w : Woven) (facts' : Records 
     nodes = record {
       told = told_added entries entries' w.facts facts' kept.nodes.told n fact none a e;
       chained = added_chained head_of_fact w.facts facts' kept.nodes.chained n fact a;
-      cells = λ k f at. elim (same_or_not k n) [
+      cells = λ k f at. elim (cases_eq k n) [
         | inl same ↦ subst (λ g. IsCell g.cell) (same_some fact f (sym a.there ∙ subst (λ j. record_at facts' j ≡ Some f) same at)) cell
         | inr ne ↦ kept.nodes.cells k f (sym (a.others k ne) ∙ at)
       ];
-      numbers = λ k some. elim (same_or_not k n) [
+      numbers = λ k some. elim (cases_eq k n) [
         | inl same ↦ subst (λ j. j < MOST_NODES) (sym same) low
         | inr ne ↦ kept.nodes.numbers k (let P : Option Fact → Type 0 = λ o. IsSome o in subst P (a.others k ne) some)
       ];
     };
     inferences = record {
       chained = kept.inferences.chained;
-      fit = λ j x at. fit_kept w (record { facts = facts'; inferences = w.inferences }) (λ k some. elim (same_or_not k n) [
+      fit = λ j x at. fit_kept w (record { facts = facts'; inferences = w.inferences }) (λ k some. elim (cases_eq k n) [
         | inl same ↦ subst (λ i. IsSome (record_at facts' i)) (sym same) (is_some_of (record_at facts' n) fact a.there)
         | inr ne ↦ let P : Option Fact → Type 0 = λ o. IsSome o in subst P (sym (a.others k ne)) some
       ]) x (kept.inferences.fit j x at);
@@ -119,7 +121,7 @@ module _ (entries : List (Named × ℕ)) (w : Woven) (inferences' : Records Infe
     nodes = kept.nodes;
     inferences = record {
       chained = added_chained head_of_inferred w.inferences inferences' kept.inferences.chained j x a;
-      fit = λ k y at. fit_kept w later (λ n some. some) y (elim (same_or_not k j) [
+      fit = λ k y at. fit_kept w later (λ n some. some) y (elim (cases_eq k j) [
         | inl same ↦ subst (λ z. IsFit w z) (same_some x y (sym a.there ∙ subst (λ i. record_at inferences' i ≡ Some y) same at)) fit
         | inr ne ↦ kept.inferences.fit k y (sym (a.others k ne) ∙ at)
       ]);
@@ -144,7 +146,7 @@ module _ (entries : List (Named × ℕ)) (w : Woven) (inferences' : Records Infe
     nodes = kept.nodes;
     inferences = record {
       chained = removed_chained head_of_inferred w.inferences inferences' kept.inferences.chained j a;
-      fit = λ k y at. fit_kept w later (λ n some. some) y (elim (same_or_not k j) [
+      fit = λ k y at. fit_kept w later (λ n some. some) y (elim (cases_eq k j) [
         | inl same ↦ absurd (none_is_no_some y (sym a.gone ∙ subst (λ i. record_at inferences' i ≡ Some y) same at))
         | inr ne ↦ kept.inferences.fit k y (sym (a.others k ne) ∙ at)
       ]);

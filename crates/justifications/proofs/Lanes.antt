@@ -1,34 +1,20 @@
 -- Lanes that are changed one after another.
 use Rattle.std.proofs.Common.{◌≡◌, ◌≢◌, ◌⊎◌, ℕ, zero, suc, ◌+◌, ◌<◌, ◌≤◌, inl, inr, true, false, ◌==◌, not, cond, true≢false, refl, sym, ap, subst, ◌∙◌, List, [], ◌∷◌, ◌++◌, length, Option, Some, None, IfSome, arith}
+use Rattle.std.proofs.lemmas.Bool.{cases_eq}
 use Rattle.std.proofs.lemmas.Bool.Decides.{nat_tests}
 use Rattle.environment_sets.specs.Lists.{IsIn}
 use Rattle.environment_sets.proofs.Listings.{IsIn-filter}
 use Rattle.index_lists.specs.Lists.{Lists, list_at, first_of, next_in, without, AreSame, Changes}
 use Rattle.index_lists.specs.Chains.{Records, lane_at, keys_in}
-use Rattle.index_lists.proofs.Links.{none_is_no_some, same_or_not}
+use Rattle.index_lists.proofs.Links.{none_is_no_some, without_absent, not_itself}
 use Rattle.justifications.specs.declared.model.Inferred.{Inferred}
 use Rattle.justifications.specs.Chained.{with_key}
 use Rattle.justifications.specs.Woven.{head_of_inferred}
 use Rattle.justifications.specs.Kept.{AreMade, AreChanged}
 
--- without a number that is not there
-pub without_absent : (key : ℕ) (keys : List ℕ) → (IsIn keys key → ⊥) → without key keys ≡ keys
-without_absent key [] out = refl
-without_absent key (k ∷ keys) out = elim (same_or_not k key) [
-  | inl e ↦ absurd (out (inl e))
-  | inr ne ↦
-      let other : (k == key) ≡ false = grind (arith, nat_tests) in
-      ap (λ b. cond (not b) (k ∷ without key keys) (without key keys)) other ∙ ap (λ (l : List ℕ). k ∷ l) (without_absent key keys (λ h. out (inr h)))
-]
-
-pub without_itself : (key : ℕ) (keys : List ℕ) → IsIn (without key keys) key → ⊥
-without_itself key keys h =
-    let is : (key == key) ≡ true = grind (arith, nat_tests) in
-    true≢false (sym (IsIn-filter (λ j. not (j == key)) keys key h).1 ∙ ap not is)
-
 -- one key linked
 pub linked_here : (old new : Lists) (key head : ℕ) → Changes old new head (key ∷ list_at old head) → (h : ℕ) → list_at new h ≡ with_key key (Some head) h (list_at old h)
-linked_here old new key head c h = elim (same_or_not head h) [
+linked_here old new key head c h = elim (cases_eq head h) [
   | inl e ↦
       let is : (head == h) ≡ true = grind (arith, nat_tests) in
       subst (λ (j : ℕ). list_at new j ≡ key ∷ list_at old j) e c.here ∙ sym (ap (λ b. cond b (key ∷ list_at old h) (list_at old h)) is)
@@ -39,7 +25,7 @@ linked_here old new key head c h = elim (same_or_not head h) [
 
 -- one key unlinked
 pub unlinked_here : (old new : Lists) (key head : ℕ) → ((h : ℕ) → IsIn (list_at old h) key → head ≡ h) → Changes old new head (without key (list_at old head)) → (h : ℕ) → list_at new h ≡ without key (list_at old h)
-unlinked_here old new key head only c h = elim (same_or_not h head) [
+unlinked_here old new key head only c h = elim (cases_eq h head) [
   | inl e ↦ subst (λ (j : ℕ). list_at new j ≡ without key (list_at old j)) (sym e) c.here
   | inr ne ↦ c.others h ne ∙ sym (without_absent key (list_at old h) (λ i. ne (sym (only h i))))
 ]
@@ -59,7 +45,7 @@ module _ (old now new : Records Inferred) (change : ℕ → ℕ → List ℕ →
   pub changed_next : (lane : ℕ) → AreChanged old now change lane → new.records ≡ now.records → ((h : ℕ) → keys_in new lane h ≡ change lane h (keys_in now lane h)) → ((l : ℕ) → l ≢ lane → lane_at new l ≡ lane_at now l) → AreChanged old new change (lane + 1)
   changed_next lane was records here others = record {
     records = records ∙ was.records;
-    done = λ l low h. elim (same_or_not l lane) [
+    done = λ l low h. elim (cases_eq l lane) [
       | inl e ↦
           let at : keys_in new lane h ≡ change lane h (keys_in old lane h) = here h ∙ ap (λ (s : Lists). change lane h (list_at s h)) (was.rest lane (omega arith)) in
           subst (λ (j : ℕ). keys_in new j h ≡ change j h (keys_in old j h)) (sym e) at
@@ -98,7 +84,7 @@ module _ (old now : Records Inferred) (x : Inferred) where
 
 module _ (old now new : Records Inferred) (x : Inferred) (lane : ℕ) (was : AreMade old now x lane) (records : new.records ≡ now.records) (same : AreSame (lane_at now lane) (lane_at new lane)) (others : (l : ℕ) → l ≢ lane → lane_at new l ≡ lane_at now l) where
   pub made_keys : (l h : ℕ) → keys_in new l h ≡ keys_in old l h
-  made_keys l h = elim (same_or_not l lane) [
+  made_keys l h = elim (cases_eq l lane) [
     | inl e ↦ subst (λ (j : ℕ). keys_in new j h ≡ keys_in old j h) (sym e) (same.keys h ∙ was.keys lane h)
     | inr ne ↦ ap (λ (s : Lists). list_at s h) (others l ne) ∙ was.keys l h
   ]
@@ -107,7 +93,7 @@ module _ (old now new : Records Inferred) (x : Inferred) (lane : ℕ) (was : Are
   made_next m = record {
     records = records ∙ was.records;
     keys = made_keys;
-    made = λ l low. elim (same_or_not l lane) [
+    made = λ l low. elim (cases_eq l lane) [
       | inl e ↦ subst (λ (j : ℕ). IfSome (head_of_inferred j x) (λ h. h < length (lane_at new j).lists)) (sym e) m
       | inr ne ↦ let P : Lists → Type 0 = λ s. IfSome (head_of_inferred l x) (λ h. h < length s.lists) in subst P (sym (others l ne)) (was.made l (omega arith))
     ];
@@ -126,7 +112,7 @@ first_of_second (x ∷ xs) ys e = absurd (none_is_no_some x (sym e))
 module _ (key : ℕ) (ys : List ℕ) where
   pub next_of_two : (xs : List ℕ) (k : ℕ) → next_in xs key ≡ Some k → next_in (xs ++ ys) key ≡ Some k
   next_of_two [] k e = absurd (none_is_no_some k e)
-  next_of_two (x ∷ xs) k e = elim (same_or_not x key) [
+  next_of_two (x ∷ xs) k e = elim (cases_eq x key) [
     | inl same ↦
         let is : (x == key) ≡ true = grind (arith, nat_tests) in
         ap (λ b. cond b (first_of (xs ++ ys)) (next_in (xs ++ ys) key)) is ∙ first_of_two xs ys k (sym (ap (λ b. cond b (first_of xs) (next_in xs key)) is) ∙ e)
@@ -137,7 +123,7 @@ module _ (key : ℕ) (ys : List ℕ) where
 
   pub next_of_last : (xs : List ℕ) → IsIn xs key → next_in xs key ≡ None → next_in (xs ++ ys) key ≡ first_of ys
   next_of_last [] i e = absurd i
-  next_of_last (x ∷ xs) i e = elim (same_or_not x key) [
+  next_of_last (x ∷ xs) i e = elim (cases_eq x key) [
     | inl same ↦
         let is : (x == key) ≡ true = grind (arith, nat_tests) in
         ap (λ b. cond b (first_of (xs ++ ys)) (next_in (xs ++ ys) key)) is ∙ first_of_second xs ys (sym (ap (λ b. cond b (first_of xs) (next_in xs key)) is) ∙ e)
@@ -149,7 +135,7 @@ module _ (key : ℕ) (ys : List ℕ) where
 
   pub next_of_second : (xs : List ℕ) → (IsIn xs key → ⊥) → next_in (xs ++ ys) key ≡ next_in ys key
   next_of_second [] out = refl
-  next_of_second (x ∷ xs) out = elim (same_or_not x key) [
+  next_of_second (x ∷ xs) out = elim (cases_eq x key) [
     | inl same ↦ absurd (out (inl same))
     | inr ne ↦
         let other : (x == key) ≡ false = grind (arith, nat_tests) in

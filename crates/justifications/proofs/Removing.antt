@@ -1,10 +1,12 @@
 -- One node less.
 use Rattle.std.proofs.Common.{◌≡◌, ◌≢◌, ℕ, zero, suc, ◌+◌, inl, inr, refl, sym, ap, subst, ◌∙◌, List, [], Option, Some, None, IsSome, arith}
+use Rattle.std.proofs.lemmas.Bool.{cases_eq}
 use Rattle.environment_sets.specs.Lists.{IsIn}
 use Rattle.circuit_model.specs.declared.model.Fact.{Fact}
+use Rattle.circuit_model.proofs.Renaming.{is_some_of}
 use Rattle.index_lists.specs.Lists.{Lists, list_at, without, Changes}
 use Rattle.index_lists.specs.Chains.{Records, record_at, lane_at, keys_in}
-use Rattle.index_lists.proofs.Links.{none_is_no_some, same_some, same_or_not}
+use Rattle.index_lists.proofs.Links.{none_is_no_some, same_some, without_absent}
 use Rattle.justifications.specs.declared.model.NodeId.{NodeId}
 use Rattle.justifications.specs.declared.model.Target.{Target}
 use Rattle.justifications.specs.declared.model.Target.TheVariants.{Node, Clash}
@@ -13,10 +15,10 @@ use Rattle.justifications.specs.declared.table.Named.{Named}
 use Rattle.justifications.specs.Chained.{AreAllChained, IsRemoved}
 use Rattle.justifications.specs.Woven.{Woven, fact_at, inferred_at, antecedent, place_of_cell, place_of_target, head_of_fact, head_of_inferred, uses_of, supports_of, IsThere, IsFit}
 use Rattle.justifications.specs.Kept.{AreKept, IsEntered}
-use Rattle.justifications.proofs.Chaining.{is_some_of, removed_chained, stands}
+use Rattle.justifications.proofs.Chaining.{removed_chained, stands}
 use Rattle.justifications.proofs.Tables.{told_removed}
 use Rattle.justifications.proofs.Uses.{listed_is, in_first_of, in_second_of}
-use Rattle.justifications.proofs.Lanes.{without_absent, unlinked_here}
+use Rattle.justifications.proofs.Lanes.{unlinked_here}
 
 not_zero : (l : ℕ) → suc l ≢ 0
 not_zero l e = omega (arith, e)
@@ -71,11 +73,11 @@ module _ (entries entries' : List (Named × ℕ)) (w : Woven) (facts' : Records 
     nodes = record {
       told = told_removed entries entries' w.facts facts' kept.nodes.told node.place fact was a e;
       chained = removed_chained head_of_fact w.facts facts' kept.nodes.chained node.place a;
-      cells = λ k f at. elim (same_or_not k node.place) [
+      cells = λ k f at. elim (cases_eq k node.place) [
         | inl same ↦ absurd (none_is_no_some f (sym a.gone ∙ subst (λ i. record_at facts' i ≡ Some f) same at))
         | inr ne ↦ kept.nodes.cells k f (sym (a.others k ne) ∙ at)
       ];
-      numbers = λ k some. elim (same_or_not k node.place) [
+      numbers = λ k some. elim (cases_eq k node.place) [
         | inl same ↦ kept.nodes.numbers k (is_some_of (fact_at w k) fact (subst (λ i. fact_at w i ≡ Some fact) (sym same) was))
         | inr ne ↦ kept.nodes.numbers k (let P : Option Fact → Type 0 = λ o. IsSome o in subst P (a.others k ne) some)
       ];

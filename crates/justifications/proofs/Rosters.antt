@@ -1,10 +1,11 @@
 -- Lists of exactly what has a property, in which one number is put or of which one is taken.
 use Rattle.std.proofs.Common.{◌≡◌, ◌≢◌, ℕ, inl, inr, true, false, ◌==◌, not, cond, true≢false, sym, ap, subst, ◌∙◌, List, [], ◌∷◌, Option, Some, None, arith}
+use Rattle.std.proofs.lemmas.Bool.{cases_eq}
 use Rattle.std.proofs.lemmas.Bool.Decides.{nat_tests}
 use Rattle.environment_sets.specs.Lists.{IsIn, IsRoster}
 use Rattle.environment_sets.proofs.Listings.{IsIn-filter, IsIn-kept, IsRising-filter}
 use Rattle.index_lists.specs.Lists.{without}
-use Rattle.index_lists.proofs.Links.{none_is_no_some, same_some, same_or_not}
+use Rattle.index_lists.proofs.Links.{none_is_no_some, same_some}
 use Rattle.justifications.specs.Chained.{with_key}
 
 -- the same elements, said otherwise
@@ -24,7 +25,7 @@ module _ (P Q : ℕ → Type 0) (key : ℕ) (keys : List ℕ) (r : IsRoster P ke
         | inl e ↦ subst Q e q
         | inr j ↦ let p : P k = (r.exact k).0 j in to k (λ e. free (subst P e p)) p
       ],
-      λ q'. elim (same_or_not k key) [ inl e ↦ inl (sym e) | inr ne ↦ inr ((r.exact k).1 (from k ne q')) ],
+      λ q'. elim (cases_eq k key) [ inl e ↦ inl (sym e) | inr ne ↦ inr ((r.exact k).1 (from k ne q')) ],
     );
   }
 
@@ -34,7 +35,7 @@ module _ (P Q : ℕ → Type 0) (key : ℕ) (keys : List ℕ) (r : IsRoster P ke
   -- in front where the key says it, and else nowhere
   pub put_roster : (said : Option ℕ) (head : ℕ) → (said ≡ Some head → Q key) → (Q key → said ≡ Some head) → IsRoster Q (with_key key said head keys)
   put_roster None head has tells = put_elsewhere (λ q. none_is_no_some head (tells q))
-  put_roster (Some s) head has tells = elim (same_or_not s head) [
+  put_roster (Some s) head has tells = elim (cases_eq s head) [
     | inl e ↦
         let is : (s == head) ≡ true = grind (arith, nat_tests) in
         subst (λ b. IsRoster Q (cond b (key ∷ keys) keys)) (sym is) (put_here (has (ap (λ (n : ℕ). Some n) e)))

@@ -1,10 +1,10 @@
 -- What a table of numbers under facts has.
 use Rattle.std.proofs.Common.{◌≡◌, ◌≢◌, ◌⊎◌, ℕ, ◌==◌, ◌&&◌, inl, inr, true, false, cond, refl, sym, ap, subst, ◌∙◌, List, [], Option, Some, None}
 use Rattle.std.specs.Map.{lookup}
-use Rattle.std.proofs.lemmas.Bool.{and_parts, and_from, eqb-true, eq-eqb, false_from_ne_true}
+use Rattle.std.proofs.lemmas.Bool.{and_parts, and_from, eqb-true, eq-eqb, false_from_ne_true, cases_eq}
 use Rattle.circuit_model.specs.declared.model.Fact.{Fact}
 use Rattle.index_lists.specs.Chains.{Records, record_at}
-use Rattle.index_lists.proofs.Links.{none_is_no_some, same_some, same_or_not}
+use Rattle.index_lists.proofs.Links.{none_is_no_some, same_some}
 use Rattle.justifications.specs.declared.table.Named.{Named}
 use Rattle.justifications.specs.Chained.{AreAlike, IsAdded, IsRemoved}
 use Rattle.justifications.specs.Woven.{head_of_fact}
@@ -54,7 +54,7 @@ module _ (entries entries' : List (Named × ℕ)) (facts facts' : Records Fact) 
           let other : k ≢ n = λ same. none_is_no_some f (sym a.free ∙ subst (λ j. record_at facts j ≡ Some f) same was) in
           a.others k other ∙ was
     ];
-    told = λ k f at. elim (same_or_not k n) [
+    told = λ k f at. elim (cases_eq k n) [
       | inl same ↦
           let there : record_at facts' n ≡ Some f = subst (λ j. record_at facts' j ≡ Some f) same at in
           let it : fact ≡ f = same_some fact f (sym a.there ∙ there) in
@@ -81,7 +81,7 @@ module _ (entries entries' : List (Named × ℕ)) (facts facts' : Records Fact) 
           let other : k ≢ n = λ same. ne (same_some f fact (sym (subst (λ j. record_at facts j ≡ Some f) same at) ∙ was)) in
           a.others k other ∙ at
     ];
-    told = λ k f at. elim (same_or_not k n) [
+    told = λ k f at. elim (cases_eq k n) [
       | inl same ↦ absurd (none_is_no_some f (sym a.gone ∙ subst (λ j. record_at facts' j ≡ Some f) same at))
       | inr ne ↦
           let before : record_at facts k ≡ Some f = sym (a.others k ne) ∙ at in

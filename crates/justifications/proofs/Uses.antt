@@ -3,10 +3,11 @@ use Rattle.std.proofs.Common.{◌≡◌, ◌⊎◌, ℕ, inl, inr, refl, sym, ap
 use Rattle.environment_sets.specs.Lists.{IsIn}
 use Rattle.index_lists.specs.Chains.{Records, record_at, keys_in}
 use Rattle.index_lists.proofs.Links.{none_is_no_some, same_some}
+use Rattle.circuit_model.proofs.Renaming.{is_some_of}
 use Rattle.justifications.specs.declared.model.Inferred.{Inferred}
 use Rattle.justifications.specs.Chained.{said_by, AreAllChained}
 use Rattle.justifications.specs.Woven.{antecedent, head_of_inferred}
-use Rattle.justifications.proofs.Chaining.{is_some_of, stands}
+use Rattle.justifications.proofs.Chaining.{stands}
 
 pub in_either : {X : Type 0} (xs ys : List X) (x : X) → IsIn (xs ++ ys) x → IsIn xs x ⊎ IsIn ys x
 in_either [] ys x i = inr i

@@ -4,6 +4,7 @@ use Rattle.circuit_model.specs.declared.model.Primitive.{Primitive}
 use Rattle.circuit_model.specs.declared.model.Primitive.TheVariants.{Buf, Not, And, Or, Xor, Nand, Nor, Xnor, Add, Mul, Const}
 use Rattle.circuit_model.specs.Inference.{WordsFit, IsTuple, Matches, IsUsed, Forces}
 use Rattle.environment_sets.specs.Sets.{Set, ◌⊆◌, size_below}
+use Rattle.propagation.proofs.Uncovered.{lower_or_last}
 
 abbrev no_words : List ℕ
 no_words = []
@@ -126,14 +127,11 @@ unfolding weight_of
 weight_of-positive zero = omega arith
 weight_of-positive (suc n) = omega (arith, weight_of-positive n)
 
-at_most_or_same : (n m : ℕ) → n < suc m → (n < m) ⊎ (n ≡ m)
-at_most_or_same n m h = grind arith
-
 pub weight_of-less : (n m : ℕ) → n < m → 3 * weight_of n ≤ weight_of m
 unfolding weight_of
 weight_of-less n zero h = absurd (omega arith)
 weight_of-less n (suc m) h =
-    elim (at_most_or_same n m h) [
+    elim (lower_or_last n m h) [
       | inl less ↦ omega (arith, weight_of-less n m less)
       | inr same ↦ rw same (omega arith)
     ]

@@ -13,7 +13,7 @@ unfolding total
 total_le zero f g le = omega arith
 total_le (suc n) f g le = omega (arith, total_le n f g le, le n)
 
-lower_or_last : (k n : ℕ) → k < suc n → (k < n) ⊎ (k ≡ n)
+pub lower_or_last : (k n : ℕ) → k < suc n → (k < n) ⊎ (k ≡ n)
 lower_or_last k n h = grind arith
 
 total_less : (n : ℕ) (f g : ℕ → ℕ) → ((k : ℕ) → f k ≤ g k) → (k : ℕ) → k < n → f k < g k → total n f < total n g

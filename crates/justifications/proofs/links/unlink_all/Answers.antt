@@ -1,8 +1,8 @@
 use Rattle.std.proofs.Common.{◌≤◌, sym, ◌∙◌, arith}
 use Rattle.index_lists.specs.Lists.{without}
 use Rattle.index_lists.specs.Chains.{keys_in}
-use Rattle.index_lists.proofs.Links.{none_is_no_some}
-use Rattle.justifications.proofs.Lanes.{without_absent, none_past, changed_all}
+use Rattle.index_lists.proofs.Links.{none_is_no_some, without_absent}
+use Rattle.justifications.proofs.Lanes.{none_past, changed_all}
 use Rattle.justifications.proofs.links.unlink_all.Goals as goal
 
 pub returns-clause-keys : goal.returns-clause-keys

@@ -1,7 +1,7 @@
 use Rattle.std.proofs.Common.{sym, ◌∙◌}
 use Rattle.index_lists.specs.Chains.{lane_at, keys_in}
-use Rattle.index_lists.proofs.Links.{none_is_no_some, same_some}
-use Rattle.justifications.proofs.Lanes.{without_absent, unlinked_here}
+use Rattle.index_lists.proofs.Links.{none_is_no_some, same_some, without_absent}
+use Rattle.justifications.proofs.Lanes.{unlinked_here}
 use Rattle.justifications.proofs.links.unlink_some.Goals as goal
 
 pub returns-in_default-clause-here : goal.returns-in_default-clause-here

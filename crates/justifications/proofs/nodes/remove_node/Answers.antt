@@ -3,8 +3,8 @@ use Rattle.environment_sets.specs.Lists.{IsIn}
 use Rattle.circuit_model.specs.declared.model.Fact.{Fact}
 use Rattle.index_lists.specs.Lists.{Lists, list_at}
 use Rattle.index_lists.specs.Chains.{keys_in, no_lists}
+use Rattle.index_lists.proofs.Links.{not_itself}
 use Rattle.justifications.specs.Woven.{place_of_cell}
-use Rattle.justifications.proofs.Lanes.{without_itself}
 use Rattle.justifications.proofs.Removing.{fact_listed, fact_unlinked}
 use Rattle.justifications.proofs.nodes.remove_node.Goals as goal
 
@@ -13,7 +13,7 @@ unlink-requires-clause-listed c = (place_of_cell c.get.result.now.cell, fact_lis
 
 pub take-requires-clause-free : goal.take-requires-clause-free
 take-requires-clause-free c lane head i =
-    without_itself c.args.node.place (keys_in c.args.facts.now lane head)
+    not_itself c.args.node.place (keys_in c.args.facts.now lane head)
     (subst (λ (l : List ℕ). IsIn l c.args.node.place)
     (fact_unlinked c.args.facts.now c.unlink.new.self c.requires.chained c.args.node.place c.get.result.now c.get.ensures c.unlink.ensures.here c.unlink.ensures.others lane head) i)
 
