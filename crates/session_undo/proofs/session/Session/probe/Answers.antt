@@ -6,12 +6,12 @@ use Rattle.environment_sets.specs.declared.environment.Env.{Env}
 use Rattle.environment_sets.specs.Members.{members, sets}
 use Rattle.std.proofs.lemmas.List.{length-map}
 use Rattle.standing_probe.proofs.Listed.{few_diagnoses_are_listed}
-use Rattle.session_undo.specs.Remembering.{parked}
+use Rattle.session_undo.specs.Presents.{State}
 use Rattle.session_undo.proofs.session.Session.probe.Goals as goal
 
 pub diagnoses_of-requires : goal.diagnoses_of-requires
 diagnoses_of-requires c =
-    let found : AreConflicts (circuit_of c.self.inside.present) (sets c.in-Ok.conflicts.items) = c.in-Ok.ensures c.self.inside.present (parked c.self.inside.present c.self.inside.history) c.self.invariant.stands in
+    let found : AreConflicts (circuit_of c.self.inside.present) (sets c.in-Ok.conflicts.items) = subst (λ (s : State). AreConflicts (circuit_of s.present) (sets c.in-Ok.conflicts.items)) (sym c.self.view_is) c.in-Ok.ensures in
     subst (λ (es : List Env). AreConflicts (circuit_of c.self.inside.present) (sets es)) (sym c.deref.ensures.value) found
 
 pub probe_of-requires-clause-few : goal.probe_of-requires-clause-few
