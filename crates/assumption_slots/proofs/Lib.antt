@@ -1,2 +1,3 @@
 pub mod Free
 pub mod Remembered
+pub mod Tables

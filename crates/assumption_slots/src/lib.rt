@@ -2,5 +2,6 @@
 #![tactic(auto)]
 
 mod slots;
+mod table;
 
 pub use slots::Slots;

@@ -1,11 +1,17 @@
 // What is remembered, by slot.
 
-ghost use Rattle.std.specs.Prelude.{◌≡◌, ◌<◌, ◌≤◌, ℕ, None, Some, IfOk, IfSome, IsSome, MatchOption, slice_set, length};
+ghost use Rattle.std.specs.Prelude.{◌≡◌, ◌<◌, ◌≤◌, ℕ, IsTrue, List, None, Some, IfOk, IfSome, IsSome, MatchOption, slice_get, slice_set, length};
+ghost use Rattle.circuit_model.specs.declared.model.Instance.{Instance};
+ghost use Rattle.circuit_model.specs.declared.model.Assumption.TheVariants.{Part};
 ghost use Rattle.environment_sets.specs.declared.environment.TheConstants.{SLOTS};
+ghost use Rattle.environment_sets.specs.Lists.{IsIn};
+ghost use Rattle.environment_sets.specs.Members.{members};
 ghost use Rattle.assumption_slots.specs.Slots.{stock, AreFreeFrom};
+ghost use Rattle.assumption_slots.specs.Table.{place_of_cell, HasPortOf};
 
-use circuit_model::Assumption;
-use environment_sets::SLOTS;
+use crate::table::{no_rows, place_of, put_in, take_out};
+use circuit_model::{Assumption, Cell};
+use environment_sets::{Env, SLOTS};
 use std::alloc::{AllocError, Global};
 use std::marker::Model;
 
@@ -15,18 +21,21 @@ pub struct Slots {
     list: Vec<Option<Assumption>>,
     // no slot from here on is taken
     end: usize,
+    // by place of a cell, the slots of the components that have a port there: sets, so that no change takes memory
+    near: Vec<Env>,
 }
 
 impl Model for Slots {
     ghost use Rattle.std.specs.Prelude.{List, Option};
     ghost use Rattle.circuit_model.specs.declared.model.Assumption.{Assumption};
     ghost use Rattle.assumption_slots.specs.Slots.{AreSlots};
+    ghost use Rattle.assumption_slots.specs.Table.{IsTable};
 
     ghost Value = { List (Option Assumption) };
 
     ghost view = { λ s. s.list.items };
 
-    ghost invariant = { λ s. AreSlots s.list.items s.end };
+    ghost invariant = { λ s. AreSlots s.list.items s.end × IsTable s.list.items s.near.items };
 }
 
 // The first place with nothing.
@@ -65,7 +74,8 @@ impl Slots {
         for _slot in 0..SLOTS {
             list.push(None)?;
         }
-        Ok(Slots { list, end: 0 })
+        let near = no_rows(alloc)?;
+        Ok(Slots { list, end: 0, near })
     }
 
     /// The number of slots, free or not.
@@ -92,6 +102,15 @@ impl Slots {
         self.list[slot as usize].as_ref()
     }
 
+    /// The slots of the components that have a port at the cell, or at another cell of its place. No two cells of a present
+    /// have the same place.
+    pub fn near(&self, cell: Cell) -> &Env
+        ensures complete { (k : ℕ) (part : List Instance) (instance : Instance) (p : ℕ) → stock self.now k ≡ Some (Part part) → IsIn part instance → slice_get instance.cells p ≡ Some cell → IsTrue (members result.now k) }
+        ensures only { (k : ℕ) → IsTrue (members result.now k) → HasPortOf (stock self.now k) (place_of_cell cell) }
+    {
+        &self.near[place_of(cell)]
+    }
+
     /// The first free slot.
     pub fn first_free(&self) -> Option<u16>
         ensures first { MatchOption result ((k : ℕ) → k < SLOTS → IsSome (stock self.now k)) (λ slot. stock self.now slot ≡ None) }
@@ -106,7 +125,7 @@ impl Slots {
         requires { slot < SLOTS }
         ensures { self.new ≡ slice_set self.old slot (Some what) }
     {
-        self.list[slot as usize] = Some(what);
+        put_in(&mut self.list, &mut self.near, slot, what);
         self.end = self.end.max(slot as usize + 1);
     }
 
@@ -115,7 +134,7 @@ impl Slots {
         requires { slot < SLOTS }
         ensures { self.new ≡ slice_set self.old slot None }
     {
-        self.list[slot as usize] = None;
+        take_out(&mut self.list, &mut self.near, slot);
         self.end = end_before(&self.list, self.end);
     }
 }

@@ -9,7 +9,7 @@ use Rattle.environment_sets.specs.Lists.{IsIn}
 use Rattle.propagation.specs.Propagating.{IsKnownAt}
 use Rattle.inference_search.specs.declared.inferred.Inferred.{Inferred}
 use Rattle.inference_search.specs.Inferences.{facts, inference}
-use Rattle.inference_search.specs.Choices.{IsOneOf, Agree, AreAlike, Uses, GoesFrom, to_fact, IsForcedWord, HasForcedWord, IsMade, IsTold}
+use Rattle.inference_search.specs.Choices.{IsOneOf, Differ, Agree, AreAlike, Uses, GoesFrom, to_fact, IsForcedWord, HasForcedWord, IsMade, IsTold}
 use Rattle.circuit_model.proofs.Inferences.{Forces-port}
 
 -- what the test says is what has to be used
@@ -77,10 +77,11 @@ module _
       by_case None h = tt
       by_case (Some f) h = (exact f).1 h
 
-    pub made_refuted : IsTrue refuted → IsMade slot instance must clash
-    made_refuted is = record {
+    pub made_refuted : Differ first second → IsTrue refuted → IsMade slot instance must clash
+    made_refuted once is = record {
       maker = refl;
       uses = goes_from;
+      once = once;
       leads = λ S part e of_part. inl (record {
         part = part;
         assumed = (slot, refl, e);
@@ -92,12 +93,13 @@ module _
       });
     }
 
-    pub made_forced : (i : Inferred) → IsForcedWord instance.cells forced clash i → IsMade slot instance must i
-    made_forced i (p, v, c, d, e, is) =
+    pub made_forced : Differ first second → (i : Inferred) → IsForcedWord instance.cells forced clash i → IsMade slot instance must i
+    made_forced once i (p, v, c, d, e, is) =
         let P : Inferred → Type 0 = λ i. IsMade slot instance must i in
         subst P (sym is) (record {
           maker = refl;
           uses = goes_from;
+          once = once;
           leads = λ S part s of_part. record {
             part = part;
             assumed = (slot, refl, s);

@@ -1,16 +1,17 @@
 -- What is remembered at a slot.
-use Rattle.std.proofs.Common.{◌≡◌, ℕ, ◌<◌, true, false, nat_lt, List, length, Option, Some, None, slice_get, refl, sym, subst, ◌∙◌, arith}
+use Rattle.std.proofs.Common.{◌≡◌, ℕ, ◌<◌, true, false, nat_lt, IsTrue, List, length, Option, Some, None, slice_get, refl, sym, subst, ◌∙◌, arith}
 use Rattle.std.proofs.lemmas.Bool.Decides.{nat_tests}
 use Rattle.std.proofs.lemmas.Option.{slice_get_within}
 use Rattle.circuit_model.specs.declared.model.Fact.{Fact}
 use Rattle.circuit_model.specs.declared.model.Instance.{Instance}
 use Rattle.circuit_model.specs.declared.model.Assumption.{Assumption}
 use Rattle.circuit_model.specs.declared.model.Assumption.TheVariants.{Part}
+use Rattle.environment_sets.specs.Sets.{Set}
 use Rattle.environment_sets.specs.Lists.{IsIn}
 use Rattle.environment_sets.proofs.Membership.{IsIn-slice_get, slice_get-IsIn}
 use Rattle.inference_search.specs.declared.inferred.Inferred.{Inferred}
 use Rattle.assumption_slots.specs.Slots.{stock, AreFreeFrom}
-use Rattle.inference_search.specs.Choices.{IsMade, IsMadeOf, IsMadeAt, IsDonePart, IsDoneAt}
+use Rattle.inference_search.specs.Choices.{Uses, IsMade, IsMadeOf, IsMadeAt, IsDonePart, IsDoneAt}
 
 -- what holds of the instance at each place holds of each instance
 pub each_instance : (part : List Instance) (P : Instance → Type 0) → ((k : ℕ) → k < length part → (i : Instance) → slice_get part k ≡ Some i → P i) → (i : Instance) → IsIn part i → P i
@@ -25,7 +26,7 @@ at_place part k here P is h i e = let same : here ≡ i = cc in subst P same h
 
 module _ (slots : List (Option Assumption)) (must : Option Fact) (slot : ℕ) (part : List Instance) (at : stock slots slot ≡ Some (Part part)) where
   pub made_at : (i : Inferred) → IsMadeOf slot part must i → IsMadeAt slots must slot i
-  made_at i h = record { maker = h.2.maker; uses = h.2.uses; leads = h.2.leads (stock slots) part at h.1 }
+  made_at i h = record { maker = h.2.maker; uses = h.2.uses; once = h.2.once; leads = h.2.leads (stock slots) part at h.1 }
 
   pub done_at : (from : List Fact) (found : List Inferred) → IsDonePart slot from must part found → IsDoneAt slots from must slot found
   done_at from found done other e =
@@ -41,3 +42,11 @@ done_past slots must from found end free done k part at =
       | true ↦ λ is. done k (grind (arith, nat_tests)) part at
       | false ↦ λ is. let bad : None ≡ Some (Part part) = sym (free k (grind (arith, nat_tests))) ∙ at in absurd (cc)
     ] refl
+
+-- a component that has no port at the fact's cell has nothing to be found that uses the fact
+pub done_near : (slots : List (Option Assumption)) (must : Option Fact) (from : List Fact) (found : List Inferred) (fact : Fact) (near : Set ℕ) → must ≡ Some fact
+    → ((k : ℕ) (part : List Instance) (instance : Instance) (p : ℕ) → stock slots k ≡ Some (Part part) → IsIn part instance → slice_get instance.cells p ≡ Some fact.cell → IsTrue (near k))
+    → (k : ℕ) → (IsTrue (near k) → IsDoneAt slots from must k found) → IsDoneAt slots from must k found
+done_near slots must from found fact near is complete k done part at instance of_part known held uses =
+    let used : Uses (Some fact) instance.cells known = subst (λ (m : Option Fact). Uses m instance.cells known) is uses in
+    done (complete k part instance used.port at of_part used.cell) part at instance of_part known held uses

@@ -10,7 +10,7 @@ use Rattle.environment_sets.specs.Lists.{IsIn}
 use Rattle.propagation.specs.Propagating.{RecordedInference, Leads, IsKnownAt, HasInference, IsEither}
 use Rattle.inference_search.specs.declared.inferred.Inferred.{Inferred}
 use Rattle.assumption_slots.specs.Slots.{stock}
-use Rattle.inference_search.specs.Inferences.{facts, inference, RecordedIn}
+use Rattle.inference_search.specs.Inferences.{facts, inference, RecordedIn, IsOnce}
 use Rattle.inference_search.specs.Choices.{Finds, IsTold, IsMadeAt, IsMadeAtSome, IsDoneAt, clash_of, IsClashOf, HasClashOf}
 use Rattle.inference_search.specs.Found.{AreFound, AreMadeBy}
 use Rattle.assumption_slots.proofs.Remembered.{stock_within}
@@ -51,6 +51,10 @@ clash_leads slots f i (g, one, differ, is) = subst P (sym is) (
   P : Inferred → Type 0
   P i = IsIn (facts i.first i.second) f × Leads (stock slots) (facts i.first i.second) i.maker i.to
 
+-- two words at one cell differ
+clash_once : (f : Fact) (i : Inferred) → IsClashOf f i → IsOnce i
+clash_once f i (g, one, differ, is) = subst IsOnce (sym is) (λ h e k. let same : g ≡ f = cc in differ (ap (λ (f : Fact). f.value) same))
+
 module _ (slots : List (Option Assumption)) (met from : List Fact) (f : Fact) (has : IsIn from f) (others : (g : Fact) → IsIn met g → (g.cell ≡ f.cell) ⊎ IsIn from g)
     (mid new : List Inferred) (clashes : Finds (IsClashOf f) (λ found. (g : Fact) → IsIn met g → HasClashOf f g found) [] mid)
     (made : Finds (IsMadeAtSome slots (Some f)) (λ found. (slot : ℕ) → slot < length slots → IsDoneAt slots from (Some f) slot found) mid new)
@@ -59,6 +63,12 @@ module _ (slots : List (Option Assumption)) (met from : List Fact) (f : Fact) (h
     both i h = elim (made.only i h) [
       | inl h ↦ elim (clashes.only i h) [ inl h ↦ absurd h | inr q ↦ clash_leads slots f i q ]
       | inr q ↦ (q.1.uses, q.1.leads)
+    ]
+
+    pub all_once : (i : Inferred) → IsIn new i → IsOnce i
+    all_once i h = elim (made.only i h) [
+      | inl h ↦ elim (clashes.only i h) [ inl h ↦ absurd h | inr q ↦ clash_once f i q ]
+      | inr q ↦ q.1.once
     ]
 
     told : (k : ℕ) (part : List Instance) (instance : Instance) (known : List (Option ℕ)) → stock slots k ≡ Some (Part part) → IsIn part instance
@@ -114,3 +124,6 @@ all_made_by slots met slot new made = record {
 
   here : (k : ℕ) (part : List Instance) → Some k ≡ Some slot → stock slots k ≡ Some (Part part) → stock slots slot ≡ Some (Part part)
   here k part by s = let same : k ≡ slot = cc in let P : ℕ → Type 0 = λ n. stock slots n ≡ Some (Part part) in subst P same s
+
+pub each_once : (slots : List (Option Assumption)) (met : List Fact) (slot : ℕ) (new : List Inferred) → Finds (IsMadeAt slots None slot) (IsDoneAt slots met None slot) [] new → (i : Inferred) → IsIn new i → IsOnce i
+each_once slots met slot new made i h = elim (made.only i h) [ inl h ↦ absurd h | inr q ↦ q.once ]

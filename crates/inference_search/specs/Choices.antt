@@ -1,5 +1,5 @@
 -- What known words at the ports of an instance come to.
-use Rattle.std.specs.Prelude.{◌≡◌, ◌⊎◌, ℕ, ◌<◌, ◌^◌, List, [], ◌∷◌, Option, Some, None, slice_get}
+use Rattle.std.specs.Prelude.{◌≡◌, ◌⊎◌, ℕ, ◌<◌, List, [], ◌∷◌, Option, Some, None, slice_get}
 use Rattle.circuit_model.specs.declared.model.Cell.{Cell}
 use Rattle.circuit_model.specs.declared.model.Fact.{Fact}
 use Rattle.circuit_model.specs.declared.model.Instance.{Instance}
@@ -12,11 +12,15 @@ use Rattle.environment_sets.specs.Lists.{IsIn}
 use Rattle.propagation.specs.Propagating.{Leads, IsKnownAt, HasInference}
 use Rattle.inference_search.specs.declared.inferred.Inferred.{Inferred}
 use Rattle.assumption_slots.specs.Slots.{stock}
-use Rattle.inference_search.specs.Inferences.{facts, RecordedIn}
+use Rattle.inference_search.specs.Inferences.{facts, RecordedIn, IsOnce}
 
 -- one of the three is the fact
 abbrev pub IsOneOf : Option Fact → Option Fact → Option Fact → Fact → Type 0
 IsOneOf a b z f = (a ≡ Some f) ⊎ (b ≡ Some f) ⊎ (z ≡ Some f)
+
+-- where both are facts, they differ
+abbrev pub Differ : Option Fact → Option Fact → Type 0
+Differ a b = (f : Fact) → a ≡ Some f → b ≡ Some f → ⊥
 
 -- where both are facts at one cell, they are the same
 abbrev pub Agree : Option Fact → Option Fact → Type 0
@@ -62,6 +66,7 @@ HasForcedWord cells forced clash p found = (v : ℕ) (c : Cell) → slice_get ce
 pub record IsMade (slot : ℕ) (instance : Instance) (must : Option Fact) (i : Inferred) : Type 0 where
   pub maker : i.maker ≡ Some slot
   pub uses : GoesFrom must (facts i.first i.second)
+  pub once : IsOnce i
   pub leads : (S : Stock ℕ) (part : List Instance) → S slot ≡ Some (Part part) → IsIn part instance → Leads S (facts i.first i.second) i.maker i.to
 
 -- an inference from the known words to the target is found
@@ -110,6 +115,7 @@ IsMadeOf slot part must i = (instance : Instance) × IsIn part instance × IsMad
 pub record IsMadeAt (slots : List (Option Assumption)) (must : Option Fact) (slot : ℕ) (i : Inferred) : Type 0 where
   pub maker : i.maker ≡ Some slot
   pub uses : GoesFrom must (facts i.first i.second)
+  pub once : IsOnce i
   pub leads : Leads (stock slots) (facts i.first i.second) i.maker i.to
 
 -- an inference of what is remembered at some slot

@@ -19,3 +19,7 @@ inference i = record { from = facts i.first i.second; to = i.to; maker = i.maker
 -- the family of the inferences of a list
 abbrev pub RecordedIn : List Inferred → RecordedInference → Type 0
 RecordedIn is j = (i : Inferred) × IsIn is i × (inference i ≡ j)
+
+-- the two facts that the inference goes from, where there are two, differ
+abbrev pub IsOnce : Inferred → Type 0
+IsOnce i = (f : Fact) → i.first ≡ Some f → i.second ≡ Some f → ⊥

@@ -8,7 +8,7 @@ ghost use Rattle.circuit_model.specs.Inference.{IsUnknownAt};
 ghost use Rattle.propagation.specs.Propagating.{IsKnownAt};
 ghost use Rattle.environment_sets.specs.Lists.{IsIn};
 ghost use Rattle.inference_search.specs.Inferences.{facts};
-ghost use Rattle.inference_search.specs.Choices.{IsOneOf, Agree};
+ghost use Rattle.inference_search.specs.Choices.{IsOneOf, Differ, Agree};
 
 use circuit_model::{Cell, Fact};
 
@@ -48,7 +48,8 @@ fn fact_at(cell: Cell, word: Option<u64>) -> Option<Fact>
 
 /// The facts that are there, in their order, each once.
 fn pair(a: Option<Fact>, b: Option<Fact>) -> Antecedents
-    ensures { (f : Fact) → IsIn (facts result.first result.second) f ↔ ((a ≡ Some f) ⊎ (b ≡ Some f)) }
+    ensures facts { (f : Fact) → IsIn (facts result.first result.second) f ↔ ((a ≡ Some f) ⊎ (b ≡ Some f)) }
+    ensures once { Differ result.first result.second }
 {
     if a.is_none() {
         Antecedents {
@@ -71,7 +72,8 @@ fn pair(a: Option<Fact>, b: Option<Fact>) -> Antecedents
 /// The facts that are there, in their order, each once.
 pub fn antecedents_of(a: Option<Fact>, b: Option<Fact>, z: Option<Fact>) -> Antecedents
     requires { (a ≡ None) ⊎ (b ≡ None) ⊎ (z ≡ None) }
-    ensures { (f : Fact) → IsIn (facts result.first result.second) f ↔ IsOneOf a b z f }
+    ensures facts { (f : Fact) → IsIn (facts result.first result.second) f ↔ IsOneOf a b z f }
+    ensures once { Differ result.first result.second }
 {
     if a.is_none() {
         pair(b, z)

@@ -4,10 +4,12 @@ ghost use Rattle.std.specs.Prelude.{◌≡◌, ◌⊎◌, ◌<◌, [], IfOk};
 ghost use Rattle.circuit_model.specs.declared.model.Fact.{Fact};
 ghost use Rattle.environment_sets.specs.declared.environment.TheConstants.{SLOTS};
 ghost use Rattle.environment_sets.specs.Lists.{IsIn};
+ghost use Rattle.inference_search.specs.declared.inferred.Inferred.{Inferred};
+ghost use Rattle.inference_search.specs.Inferences.{IsOnce};
 ghost use Rattle.inference_search.specs.Choices.{Finds, IsClashOf, HasClashOf};
 ghost use Rattle.inference_search.specs.Found.{AreFound, AreMadeBy};
 
-use crate::components::{Search, add_slot, add_slots};
+use crate::components::{Search, add_near, add_slot};
 use crate::inferred::Inferred;
 use assumption_slots::Slots;
 use circuit_model::Fact;
@@ -15,14 +17,16 @@ use std::alloc::{AllocError, Global};
 
 /// The inferences that use a fact (the consumers of de Kleer 1986): those of the remembered components from it and facts
 /// that were met, and, first in the list, the clash with each other word that was met at its cell. The fact may have
-/// been met itself or not. An error says that memory ran out; nothing outside is changed.
+/// been met itself or not. No inference goes from one fact twice. An error says that memory ran out; nothing outside is
+/// changed.
 pub fn find_uses(
     alloc: Global,
     slots: &Slots,
     met: &[Fact],
     fact: Fact,
 ) -> Result<Vec<Inferred>, AllocError>
-    ensures { IfOk result (λ found. AreFound slots.now met.now fact found.items) }
+    ensures exact { IfOk result (λ found. AreFound slots.now met.now fact found.items) }
+    ensures once { IfOk result (λ found. (i : Inferred) → IsIn found.items i → IsOnce i) }
 {
     let facts = facts_with(alloc, met, fact)?;
     let mut found = clashes(alloc, met, fact)?;
@@ -31,12 +35,13 @@ pub fn find_uses(
         facts: &facts,
         must: Some(fact),
     };
-    add_slots(&search, &mut found, slots)?;
+    add_near(&search, &mut found, slots, fact)?;
     Ok(found)
 }
 
 /// The inferences that the component at a slot makes from facts that were met, those from no fact too. There are none
-/// where the slot is free or stands for a reading. An error says that memory ran out; nothing outside is changed.
+/// where the slot is free or stands for a reading. None goes from one fact twice. An error says that memory ran out;
+/// nothing outside is changed.
 pub fn find_made_by(
     alloc: Global,
     slots: &Slots,
@@ -44,7 +49,8 @@ pub fn find_made_by(
     slot: u16,
 ) -> Result<Vec<Inferred>, AllocError>
     requires { slot < SLOTS }
-    ensures { IfOk result (λ found. AreMadeBy slots.now met.now slot found.items) }
+    ensures exact { IfOk result (λ found. AreMadeBy slots.now met.now slot found.items) }
+    ensures once { IfOk result (λ found. (i : Inferred) → IsIn found.items i → IsOnce i) }
 {
     let mut found = Vec::new(alloc);
     let search = Search {

@@ -6,7 +6,7 @@ use Rattle.std.specs.declared.alloc.AllocError.{AllocError}
 use Rattle.environment_sets.specs.Lists.{IsIn}
 use Rattle.circuit_model.specs.declared.model.Fact.{Fact}
 use Rattle.index_lists.specs.Lists.{first_of, next_in}
-use Rattle.index_lists.proofs.Links.{none_is_no_some, same_some, first_in_it}
+use Rattle.index_lists.proofs.Links.{none_is_no_some, first_in_it}
 use Rattle.justifications.specs.declared.model.NodeId.{NodeId}
 use Rattle.justifications.specs.Woven.{Woven, fact_at, Finds}
 use Rattle.justifications.specs.Chained.{AreAlike}

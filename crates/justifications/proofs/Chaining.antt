@@ -5,7 +5,6 @@ use Rattle.environment_sets.specs.Lists.{IsIn, IsRoster}
 use Rattle.index_lists.specs.Lists.{Lists, list_at}
 use Rattle.index_lists.specs.Chains.{Records, record_at, lane_at, keys_in}
 use Rattle.index_lists.proofs.Links.{none_is_no_some}
-use Rattle.circuit_model.proofs.Renaming.{is_some_of}
 use Rattle.justifications.specs.Chained.{said_by, AreAllChained, AreAlike, IsAdded, IsRemoved}
 use Rattle.justifications.proofs.Rosters.{roster_of, roster_none, put_roster, cut_roster}
 

@@ -16,7 +16,7 @@ use Rattle.justifications.specs.declared.model.Inferred.{Inferred}
 use Rattle.justifications.specs.declared.model.TheConstants.{MOST_NODES}
 use Rattle.justifications.specs.declared.table.Named.{Named}
 use Rattle.justifications.specs.Chained.{AreAllChained, AreAlike, IsAdded, IsRemoved}
-use Rattle.justifications.specs.Woven.{Woven, fact_at, IsCell, IsThere, IsFit, antecedent, place_of_target, head_of_fact, head_of_inferred}
+use Rattle.justifications.specs.Woven.{Woven, fact_at, IsThere, IsFit, antecedent, place_of_target, head_of_fact, head_of_inferred}
 use Rattle.justifications.specs.Kept.{number_in, IsLow, AreKept, IsEntered}
 use Rattle.justifications.proofs.Chaining.{nothing_chained, alike_chained, added_chained, removed_chained}
 use Rattle.justifications.proofs.Uses.{if_some_of}
@@ -29,7 +29,6 @@ nothing_kept entries w e facts heads inferences heads' = subst (λ (es : List (N
   nodes = record {
     told = nothing_told w.facts facts;
     chained = nothing_chained head_of_fact w.facts facts heads;
-    cells = λ n f at. absurd (none_is_no_some f (sym (facts n) ∙ at));
     numbers = λ n some. absurd (none_is_not (record_at w.facts n) (facts n) some);
   };
   inferences = record {
@@ -48,15 +47,11 @@ module _ (w w' : Woven) (stay : (n : ℕ) → IsSome (fact_at w n) → IsSome (f
 
 module _ (entries entries' : List (Named × ℕ)) (w : Woven) (facts' : Records Fact) (kept : AreKept entries w) where
   -- one node more
-  pub node_added : (n : ℕ) (fact : Fact) → number_in entries fact ≡ None → IsCell fact.cell → IsAdded head_of_fact w.facts facts' n fact → IsEntered entries entries' fact (Some n) → n < MOST_NODES → AreKept entries' (record { facts = facts'; inferences = w.inferences })
-  node_added n fact none cell a e low = record {
+  pub node_added : (n : ℕ) (fact : Fact) → number_in entries fact ≡ None → IsAdded head_of_fact w.facts facts' n fact → IsEntered entries entries' fact (Some n) → n < MOST_NODES → AreKept entries' (record { facts = facts'; inferences = w.inferences })
+  node_added n fact none a e low = record {
     nodes = record {
       told = told_added entries entries' w.facts facts' kept.nodes.told n fact none a e;
       chained = added_chained head_of_fact w.facts facts' kept.nodes.chained n fact a;
-      cells = λ k f at. elim (cases_eq k n) [
-        | inl same ↦ subst (λ g. IsCell g.cell) (same_some fact f (sym a.there ∙ subst (λ j. record_at facts' j ≡ Some f) same at)) cell
-        | inr ne ↦ kept.nodes.cells k f (sym (a.others k ne) ∙ at)
-      ];
       numbers = λ k some. elim (cases_eq k n) [
         | inl same ↦ subst (λ j. j < MOST_NODES) (sym same) low
         | inr ne ↦ kept.nodes.numbers k (let P : Option Fact → Type 0 = λ o. IsSome o in subst P (a.others k ne) some)
@@ -76,7 +71,6 @@ module _ (entries entries' : List (Named × ℕ)) (w : Woven) (facts' : Records 
     nodes = record {
       told = told_alike entries entries' w.facts facts' kept.nodes.told a e;
       chained = alike_chained head_of_fact w.facts facts' kept.nodes.chained a;
-      cells = λ k f at. kept.nodes.cells k f (sym (a.records k) ∙ at);
       numbers = λ k some. kept.nodes.numbers k (let P : Option Fact → Type 0 = λ o. IsSome o in subst P (a.records k) some);
     };
     inferences = record {
@@ -86,10 +80,10 @@ module _ (entries entries' : List (Named × ℕ)) (w : Woven) (facts' : Records 
   }
 
   -- whichever of the two
-  pub node_made : (fact : Fact) (r : Result NodeId AllocError) → number_in entries fact ≡ None → IsCell fact.cell → IfOk r (λ n. IsAdded head_of_fact w.facts facts' n.place fact) → IfOk r (λ n. IsEntered entries entries' fact (Some n.place))
+  pub node_made : (fact : Fact) (r : Result NodeId AllocError) → number_in entries fact ≡ None → IfOk r (λ n. IsAdded head_of_fact w.facts facts' n.place fact) → IfOk r (λ n. IsEntered entries entries' fact (Some n.place))
       → IfOk r (λ n. n.place < MOST_NODES) → OnErr r (AreAlike w.facts facts') → OnErr r (entries' ≡ entries) → AreKept entries' (record { facts = facts'; inferences = w.inferences })
-  node_made fact (Ok n) none cell a e low err err' = node_added n.place fact none cell a e low
-  node_made fact (Err x) none cell a e low err err' = nodes_alike err err'
+  node_made fact (Ok n) none a e low err err' = node_added n.place fact none a e low
+  node_made fact (Err x) none a e low err err' = nodes_alike err err'
 
 -- inferences that are fit say no head that is too high
 module _ (w : Woven) (numbers : (n : ℕ) → IsSome (fact_at w n) → n < MOST_NODES) where

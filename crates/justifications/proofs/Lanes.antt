@@ -1,12 +1,11 @@
 -- Lanes that are changed one after another.
-use Rattle.std.proofs.Common.{◌≡◌, ◌≢◌, ◌⊎◌, ℕ, zero, suc, ◌+◌, ◌<◌, ◌≤◌, inl, inr, true, false, ◌==◌, not, cond, true≢false, refl, sym, ap, subst, ◌∙◌, List, [], ◌∷◌, ◌++◌, length, Option, Some, None, IfSome, arith}
+use Rattle.std.proofs.Common.{◌≡◌, ◌≢◌, ◌⊎◌, ℕ, zero, suc, ◌+◌, ◌<◌, ◌≤◌, inl, inr, true, false, ◌==◌, cond, refl, sym, ap, subst, ◌∙◌, List, [], ◌∷◌, ◌++◌, length, Option, Some, None, IfSome, arith}
 use Rattle.std.proofs.lemmas.Bool.{cases_eq}
 use Rattle.std.proofs.lemmas.Bool.Decides.{nat_tests}
 use Rattle.environment_sets.specs.Lists.{IsIn}
-use Rattle.environment_sets.proofs.Listings.{IsIn-filter}
 use Rattle.index_lists.specs.Lists.{Lists, list_at, first_of, next_in, without, AreSame, Changes}
 use Rattle.index_lists.specs.Chains.{Records, lane_at, keys_in}
-use Rattle.index_lists.proofs.Links.{none_is_no_some, without_absent, not_itself}
+use Rattle.index_lists.proofs.Links.{none_is_no_some, without_absent}
 use Rattle.justifications.specs.declared.model.Inferred.{Inferred}
 use Rattle.justifications.specs.Chained.{with_key}
 use Rattle.justifications.specs.Woven.{head_of_inferred}

@@ -73,10 +73,6 @@ module _ (entries entries' : List (Named × ℕ)) (w : Woven) (facts' : Records 
     nodes = record {
       told = told_removed entries entries' w.facts facts' kept.nodes.told node.place fact was a e;
       chained = removed_chained head_of_fact w.facts facts' kept.nodes.chained node.place a;
-      cells = λ k f at. elim (cases_eq k node.place) [
-        | inl same ↦ absurd (none_is_no_some f (sym a.gone ∙ subst (λ i. record_at facts' i ≡ Some f) same at))
-        | inr ne ↦ kept.nodes.cells k f (sym (a.others k ne) ∙ at)
-      ];
       numbers = λ k some. elim (cases_eq k node.place) [
         | inl same ↦ kept.nodes.numbers k (is_some_of (fact_at w k) fact (subst (λ i. fact_at w i ≡ Some fact) (sym same) was))
         | inr ne ↦ kept.nodes.numbers k (let P : Option Fact → Type 0 = λ o. IsSome o in subst P (a.others k ne) some)

@@ -90,5 +90,12 @@ module _ (entries entries' : List (Named × ℕ)) (facts facts' : Records Fact) 
     ];
   }
 
+-- what no node has has no number
+pub untold : (entries : List (Named × ℕ)) (facts : Records Fact) → AreTold entries facts → (fact : Fact) → ((n : ℕ) → record_at facts n ≡ Some fact → ⊥) → number_in entries fact ≡ None
+untold entries facts told fact none = elim (number_in entries fact) as (λ o. number_in entries fact ≡ o → o ≡ None) [
+  | None ↦ λ _. refl
+  | Some n ↦ λ is. absurd (none n (told.found fact n is))
+] refl
+
 pub nothing_told : (facts : Records Fact) → ((k : ℕ) → record_at facts k ≡ None) → AreTold [] facts
 nothing_told facts none = record { found = λ f n e. absurd (none_is_no_some n e); told = λ n f e. absurd (none_is_no_some f (sym (none n) ∙ e)) }

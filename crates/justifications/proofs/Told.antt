@@ -10,7 +10,7 @@ use Rattle.justifications.specs.declared.model.Target.TheVariants.{Node, Clash}
 use Rattle.justifications.specs.declared.model.Inferred.{Inferred}
 use Rattle.justifications.specs.declared.table.Named.{Named}
 use Rattle.justifications.specs.Chained.{said_by}
-use Rattle.justifications.specs.Woven.{Woven, fact_at, inferred_at, IsCell, IsWoven, place_of_cell, place_of_target, head_of_fact, head_of_inferred, antecedent, GoesFrom}
+use Rattle.justifications.specs.Woven.{Woven, fact_at, inferred_at, IsWoven, place_of_cell, place_of_target, head_of_fact, head_of_inferred, antecedent, GoesFrom}
 use Rattle.justifications.specs.Kept.{AreKept}
 use Rattle.justifications.proofs.Rosters.{roster_of}
 use Rattle.justifications.proofs.Uses.{in_either, in_first_of, in_second_of}
@@ -32,12 +32,6 @@ both_rosters P Q xs ys p q out = record {
   );
 }
 
-same_cell : (a b : Cell) → IsCell a → IsCell b → place_of_cell a ≡ place_of_cell b → a ≡ b
-same_cell a b ca cb e =
-    let net : a.net ≡ b.net = omega (arith, e, ca.cycle, cb.cycle) in
-    let cycle : a.cycle ≡ b.cycle = omega (arith, e, net) in
-    λ i. record { net = net i; cycle = cycle i }
-
 same_target : (a b : Target) → place_of_target a ≡ place_of_target b → a ≡ b
 same_target Clash Clash e = refl
 same_target Clash (Node n) e = absurd (omega (arith, e))
@@ -45,13 +39,13 @@ same_target (Node m) Clash e = absurd (omega (arith, e))
 same_target (Node m) (Node n) e = let same : m.place ≡ n.place = omega (arith, e) in λ i. Node (record { place = same i })
 
 module _ (cell : Cell) where
-  says_cell : (o : Option Fact) → ((f : Fact) → o ≡ Some f → IsCell f.cell) → IsCell cell → said_by (head_of_fact 0) o ≡ Some (place_of_cell cell) → IsSomeAnd o (λ f. f.cell ≡ cell)
-  says_cell None within c e = none_is_no_some (place_of_cell cell) e
-  says_cell (Some f) within c e = same_cell f.cell cell (within f refl) c (same_some (place_of_cell f.cell) (place_of_cell cell) e)
+  says_cell : (o : Option Fact) → said_by (head_of_fact 0) o ≡ Some (place_of_cell cell) → IsSomeAnd o (λ f. place_of_cell f.cell ≡ place_of_cell cell)
+  says_cell None e = none_is_no_some (place_of_cell cell) e
+  says_cell (Some f) e = same_some (place_of_cell f.cell) (place_of_cell cell) e
 
-  cell_says : (o : Option Fact) → IsSomeAnd o (λ f. f.cell ≡ cell) → said_by (head_of_fact 0) o ≡ Some (place_of_cell cell)
+  cell_says : (o : Option Fact) → IsSomeAnd o (λ f. place_of_cell f.cell ≡ place_of_cell cell) → said_by (head_of_fact 0) o ≡ Some (place_of_cell cell)
   cell_says None e = absurd e
-  cell_says (Some f) e = ap (λ (c : Cell). Some (place_of_cell c)) e
+  cell_says (Some f) e = ap (λ (n : ℕ). Some n) e
 
 says_target : (target : Target) (o : Option Inferred) → said_by (head_of_inferred 2) o ≡ Some (place_of_target target) → IsSomeAnd o (λ x. x.to ≡ target)
 says_target target None e = none_is_no_some (place_of_target target) e
@@ -87,10 +81,9 @@ woven entries w kept =
     let chained = kept.inferences.chained in
     record {
       one_node = λ i j fact a b. same_some i j (sym (kept.nodes.told.told i fact a) ∙ kept.nodes.told.told j fact b);
-      cells = kept.nodes.cells;
       numbers = kept.nodes.numbers;
       fit = kept.inferences.fit;
-      nodes = λ cell c. roster_of (keys_in w.facts 0 (place_of_cell cell)) (kept.nodes.chained 0 (place_of_cell cell)) (λ k e. says_cell cell (fact_at w k) (kept.nodes.cells k) c e) (λ k e. cell_says cell (fact_at w k) e);
+      nodes = λ cell. roster_of (keys_in w.facts 0 (place_of_cell cell)) (kept.nodes.chained 0 (place_of_cell cell)) (λ k e. says_cell cell (fact_at w k) e) (λ k e. cell_says cell (fact_at w k) e);
       uses = λ n. roster_of (keys_in w.inferences 0 n ++ keys_in w.inferences 1 n)
           (both_rosters (λ k. said_by (head_of_inferred 0) (inferred_at w k) ≡ Some n) (λ k. said_by (head_of_inferred 1) (inferred_at w k) ≡ Some n) (keys_in w.inferences 0 n) (keys_in w.inferences 1 n) (chained 0 n) (chained 1 n)
           (λ k a b. once_of n (inferred_at w k) (λ x at. (kept.inferences.fit k x at).once n) a b))

@@ -7,7 +7,7 @@ use Rattle.justifications.specs.declared.model.Inferred.{Inferred}
 use Rattle.justifications.specs.declared.model.TheConstants.{MOST_NODES}
 use Rattle.justifications.specs.declared.table.Named.{Named}
 use Rattle.justifications.specs.Chained.{AreAllChained, said_by}
-use Rattle.justifications.specs.Woven.{Woven, IsCell, IsFit, inferred_at, head_of_fact, head_of_inferred}
+use Rattle.justifications.specs.Woven.{Woven, IsFit, inferred_at, head_of_fact, head_of_inferred}
 
 -- the key of a fact
 abbrev pub key_of : Fact → Named
@@ -26,11 +26,10 @@ pub record AreTold (entries : List (Named × ℕ)) (facts : Records Fact) : Type
   pub found : (fact : Fact) (n : ℕ) → number_in entries fact ≡ Some n → record_at facts n ≡ Some fact
   pub told : (n : ℕ) (fact : Fact) → record_at facts n ≡ Some fact → number_in entries fact ≡ Some n
 
--- the nodes of cells within the limits, each found by its fact, and in the list of its cell
+-- the nodes, each found by its fact, and in the list of its cell
 pub record AreNodes (entries : List (Named × ℕ)) (facts : Records Fact) : Type 0 where
   pub told : AreTold entries facts
   pub chained : AreAllChained head_of_fact facts
-  pub cells : (n : ℕ) (fact : Fact) → record_at facts n ≡ Some fact → IsCell fact.cell
   pub numbers : (n : ℕ) → IsSome (record_at facts n) → n < MOST_NODES
 
 -- each recorded inference is fit, and in the lists of what it names

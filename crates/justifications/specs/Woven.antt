@@ -1,10 +1,10 @@
 -- Nodes and recorded inferences (de Kleer 1986), as contracts see them.
-use Rattle.std.specs.Prelude.{◌≡◌, ◌⊎◌, ℕ, zero, suc, ◌+◌, ◌*◌, ◌<◌, List, ◌++◌, Option, Some, None, IsSome, IfSome, IsSomeAnd, slice_index_or}
+use Rattle.std.specs.Prelude.{◌≡◌, ◌⊎◌, ℕ, zero, suc, ◌+◌, ◌*◌, ◌%◌, ◌<◌, List, ◌++◌, Option, Some, None, IsSome, IfSome, IsSomeAnd, slice_index_or}
 use Rattle.environment_sets.specs.Lists.{IsRoster}
 use Rattle.environment_sets.specs.declared.environment.TheConstants.{SLOTS}
 use Rattle.circuit_model.specs.declared.model.Cell.{Cell}
 use Rattle.circuit_model.specs.declared.model.Fact.{Fact}
-use Rattle.circuit_model.specs.declared.limits.TheConstants.{MOST_NETS, MOST_CYCLES}
+use Rattle.circuit_model.specs.declared.limits.TheConstants.{MOST_CYCLES}
 use Rattle.index_lists.specs.Chains.{Records, record_at, keys_in}
 use Rattle.justifications.specs.Chained.{AreAlike, IsAdded}
 use Rattle.justifications.specs.declared.model.NodeId.{NodeId}
@@ -12,7 +12,7 @@ use Rattle.justifications.specs.declared.model.JustId.{JustId}
 use Rattle.justifications.specs.declared.model.Target.{Target}
 use Rattle.justifications.specs.declared.model.Target.TheVariants.{Node, Clash}
 use Rattle.justifications.specs.declared.model.Inferred.{Inferred}
-use Rattle.justifications.specs.declared.model.TheConstants.{MOST_NODES}
+use Rattle.justifications.specs.declared.model.TheConstants.{CELLS, MOST_NODES}
 
 -- the facts of nodes by number, in one lane of lists, by cell; and the recorded inferences by name, in four lanes of lists:
 -- by first antecedent, by second antecedent, by what they lead to, and by maker
@@ -28,14 +28,9 @@ fact_at w number = record_at w.facts number
 abbrev pub inferred_at : Woven → ℕ → Option Inferred
 inferred_at w name = record_at w.inferences name
 
--- a cell within the limits of presents
-pub record IsCell (cell : Cell) : Type 0 where
-  pub net : cell.net < MOST_NETS
-  pub cycle : cell.cycle < MOST_CYCLES
-
--- the place of a cell among all within the limits
-abbrev pub place_of_cell : Cell → ℕ
-place_of_cell cell = cell.net * MOST_CYCLES + cell.cycle
+-- the number of a cell's chain; the remainder alters no cell that a present may have
+unfoldable pub place_of_cell : Cell → ℕ
+place_of_cell cell = (cell.net * MOST_CYCLES + cell.cycle) % CELLS
 
 -- the number of a node that is named
 abbrev pub number_of : Option NodeId → Option ℕ
@@ -70,7 +65,7 @@ head_of_inferred (suc (suc zero)) x = Some (place_of_target x.to)
 head_of_inferred (suc (suc (suc zero))) x = x.maker
 head_of_inferred (suc (suc (suc (suc lane)))) x = None
 
--- the chain of a cell's nodes
+-- the chain of the nodes of a cell, and of the other cells of its number
 abbrev pub nodes_at : Woven → Cell → List ℕ
 nodes_at w cell = keys_in w.facts 0 (place_of_cell cell)
 
@@ -107,14 +102,13 @@ Finds old new n fact = ((fact_at old n ≡ Some fact) × AreAlike old.facts new.
 abbrev pub GoesFrom : ℕ → Inferred → Type 0
 GoesFrom n x = (antecedent 0 x ≡ Some n) ⊎ (antecedent 1 x ≡ Some n)
 
--- what is true of all nodes and recorded inferences: no fact has two nodes, each cell is within the limits, each inference is
--- fit, and each chain has exactly what it is of, each once
+-- what is true of all nodes and recorded inferences: no fact has two nodes, each inference is fit, and each chain has exactly
+-- what it is of, each once
 pub record IsWoven (w : Woven) : Type 0 where
   pub one_node : (i j : ℕ) (fact : Fact) → fact_at w i ≡ Some fact → fact_at w j ≡ Some fact → i ≡ j
-  pub cells : (n : ℕ) (fact : Fact) → fact_at w n ≡ Some fact → IsCell fact.cell
   pub numbers : (n : ℕ) → IsSome (fact_at w n) → n < MOST_NODES
   pub fit : (j : ℕ) (x : Inferred) → inferred_at w j ≡ Some x → IsFit w x
-  pub nodes : (cell : Cell) → IsCell cell → IsRoster (λ n. IsSomeAnd (fact_at w n) (λ fact. fact.cell ≡ cell)) (nodes_at w cell)
+  pub nodes : (cell : Cell) → IsRoster (λ n. IsSomeAnd (fact_at w n) (λ fact. place_of_cell fact.cell ≡ place_of_cell cell)) (nodes_at w cell)
   pub uses : (n : ℕ) → IsRoster (λ j. IsSomeAnd (inferred_at w j) (GoesFrom n)) (uses_of w n)
   pub supports : (target : Target) → IsRoster (λ j. IsSomeAnd (inferred_at w j) (λ x. x.to ≡ target)) (supports_of w target)
   pub made : (slot : ℕ) → IsRoster (λ j. IsSomeAnd (inferred_at w j) (λ x. x.maker ≡ Some slot)) (made_by w slot)

@@ -7,5 +7,5 @@ mod nodes;
 mod table;
 mod weave;
 
-pub use model::{Inferred, JustId, MOST_NODES, NodeId, Target};
+pub use model::{CELLS, Inferred, JustId, MOST_NODES, NodeId, Target};
 pub use weave::Weave;

@@ -1,5 +1,10 @@
 // Nodes and inferences.
 
+use circuit_model::limits::{MOST_CYCLES, MOST_NETS};
+
+/// How many chains of cells there are: one for each cell that a present may have.
+pub const CELLS: usize = MOST_NETS as usize * MOST_CYCLES as usize;
+
 /// The numbers of nodes are below it.
 pub const MOST_NODES: usize = 4_294_967_296;
 

@@ -1,11 +1,11 @@
 // The nodes of facts.
-ghost use Rattle.std.specs.Prelude.{◌≡◌, ◌<◌, ℕ, Some, None, IsSome, IfOk, OnErr};
+ghost use Rattle.std.specs.Prelude.{◌≡◌, ◌<◌, ℕ, Some, None, IsSome, IfSome, IsTrue, IfOk, OnErr};
 ghost use Rattle.index_lists.specs.Chains.{record_at, HaveSameLists, Has, IsInNoLane};
 ghost use Rattle.justifications.specs.Chained.{AreAlike, AreAllChained, IsAdded, IsRemoved};
-ghost use Rattle.justifications.specs.Woven.{IsCell, place_of_cell, head_of_fact};
+ghost use Rattle.justifications.specs.Woven.{place_of_cell, head_of_fact};
 ghost use Rattle.justifications.specs.Kept.{number_in, IsEntered};
 
-use crate::model::{MOST_NODES, NodeId};
+use crate::model::{CELLS, MOST_NODES, NodeId};
 use crate::table::{Named, enter, strike};
 use circuit_model::limits::MOST_CYCLES;
 use circuit_model::{Cell, Fact};
@@ -13,13 +13,39 @@ use index_lists::{Chains, Key};
 use indexmap::IndexMap;
 use std::alloc::AllocError;
 
-// The place of the cell among all within the limits.
+// The number of the cell's chain. (The remainder alters no cell that a present may have.)
+#[tactic(auto, unfolding(crate::specs::Woven::place_of_cell))]
 pub(crate) fn place_of_cell(cell: Cell) -> usize
-    requires { IsCell cell }
     ensures place { result ≡ place_of_cell cell }
-    ensures low { result < 4096 }
+    ensures low { result < CELLS }
 {
-    cell.net as usize * MOST_CYCLES as usize + cell.cycle as usize
+    (cell.net as usize * MOST_CYCLES as usize + cell.cycle as usize) % CELLS
+}
+
+// Whether the key has the fact.
+fn is_at(facts: &Chains<Fact>, key: Key, fact: &Fact) -> bool
+    requires { IsSome (record_at facts.now key.place) }
+    ensures { IsTrue result → record_at facts.now key.place ≡ Some fact.now }
+{
+    facts.get(key) == fact
+}
+
+// The node of the fact, where it is one of the first two in the chain of its cell.
+pub(crate) fn find_in_front(facts: &Chains<Fact>, fact: &Fact) -> Option<NodeId>
+    requires { AreAllChained head_of_fact facts.now }
+    ensures { IfSome result (λ n. record_at facts.now n.place ≡ Some fact.now) }
+{
+    let first = facts.first(0, place_of_cell(fact.cell))?;
+    if is_at(facts, first, fact) {
+        return Some(NodeId { place: first.place });
+    }
+    let second = facts.next(first, 0)?;
+    if is_at(facts, second, fact) {
+        return Some(NodeId {
+            place: second.place,
+        });
+    }
+    None
 }
 
 // A record with the fact, in no list. After an error all is as before.
@@ -47,7 +73,6 @@ pub(crate) fn add_node(
     table: &mut IndexMap<Named, usize>,
     fact: Fact,
 ) -> Result<NodeId, AllocError>
-    requires { IsCell fact.cell }
     ensures added { IfOk result (λ n. IsAdded head_of_fact facts.old facts.new n.place fact) }
     ensures entered { IfOk result (λ n. IsEntered table.old.entries table.new.entries fact (Some n.place)) }
     ensures low { IfOk result (λ n. n.place < MOST_NODES) }

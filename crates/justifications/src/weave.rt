@@ -3,7 +3,7 @@ ghost use Rattle.std.specs.Prelude.{◌≡◌, ◌<◌, ℕ, [], Some, None, IsS
 ghost use Rattle.environment_sets.specs.Lists.{IsIn};
 ghost use Rattle.index_lists.specs.Lists.{first_of, next_in};
 ghost use Rattle.justifications.specs.Chained.{AreAlike, IsAdded, IsRemoved, AreDropped};
-ghost use Rattle.justifications.specs.Woven.{fact_at, inferred_at, name_of, number_of, IsCell, IsFit, IsThere, head_of_inferred, nodes_at, uses_of, supports_of, made_by, Finds, GoesFrom, IsWoven};
+ghost use Rattle.justifications.specs.Woven.{fact_at, inferred_at, name_of, number_of, IsFit, IsThere, head_of_inferred, nodes_at, uses_of, supports_of, made_by, Finds, GoesFrom, IsWoven};
 ghost use Rattle.justifications.specs.declared.model.Target.TheVariants.{Node};
 
 use crate::links::{
@@ -11,7 +11,7 @@ use crate::links::{
     record_in, remove_from,
 };
 use crate::model::{Inferred, JustId, NodeId, Target};
-use crate::nodes::{add_node, place_of_cell, remove_node};
+use crate::nodes::{add_node, find_in_front, place_of_cell, remove_node};
 use crate::table::{Named, number_in};
 use circuit_model::{Cell, Fact};
 use index_lists::{Chains, Key};
@@ -53,26 +53,28 @@ impl Weave {
         }
     }
 
-    /// The node of the fact, if it has one. It is found by a hash, in no walk.
+    /// The node of the fact, if it has one. It is found at the front of the chain of its cell, or else by a hash, in no walk.
     pub fn find(&self, fact: &Fact) -> Option<NodeId>
         ensures { MatchOption result ((n : ℕ) → fact_at self.now n ≡ Some fact.now → ⊥) (λ n. fact_at self.now n.place ≡ Some fact.now) }
     {
+        if let Some(node) = find_in_front(&self.facts, fact) {
+            return Some(node);
+        }
         match number_in(&self.table, fact) {
             Some(place) => Some(NodeId { place }),
             None => None,
         }
     }
 
-    /// The node of the fact, whose cell has a net below [`MOST_NETS`](circuit_model::limits::MOST_NETS) and a cycle below
-    /// [`MOST_CYCLES`](circuit_model::limits::MOST_CYCLES); it is made where there is none. After an error all is as before.
+    /// The node of the fact, which is made where there is none, first in the chain of its cell. Cells past the limits of a
+    /// present share chains. After an error all is as before.
     pub fn node_of(&mut self, fact: Fact) -> Result<NodeId, AllocError>
-        requires { IsCell fact.cell }
         ensures found { IfOk result (λ n. Finds self.old self.new n.place fact) }
         ensures err { OnErr result (AreAlike self.old.facts self.new.facts) }
         ensures inferences { self.new.inferences ≡ self.old.inferences }
     {
-        if let Some(place) = number_in(&self.table, &fact) {
-            return Ok(NodeId { place });
+        if let Some(node) = self.find(&fact) {
+            return Ok(node);
         }
         add_node(&mut self.facts, &mut self.table, fact)
     }
@@ -85,9 +87,8 @@ impl Weave {
         *self.facts.get(Key { place: node.place })
     }
 
-    /// The first node of the cell, whose net and cycle are within the limits.
+    /// The first node in the chain of the cell. Cells past the limits of a present share chains.
     pub fn first_at(&self, cell: Cell) -> Option<NodeId>
-        requires { IsCell cell }
         ensures { number_of result ≡ first_of (nodes_at self.now cell) }
     {
         match self.facts.first(0, place_of_cell(cell)) {
@@ -96,7 +97,7 @@ impl Weave {
         }
     }
 
-    /// The node behind this one in the chain of its cell.
+    /// The node behind this one in the chain of its cell. Cells past the limits of a present share chains.
     pub fn next_at(&self, node: NodeId) -> Option<NodeId>
         requires { IsSome (fact_at self.now node.place) }
         ensures { (cell : Cell) → IsIn (nodes_at self.now cell) node.place → number_of result ≡ next_in (nodes_at self.now cell) node.place }

@@ -31,7 +31,7 @@ use Rattle.inference_search.specs.declared.inferred.Inferred.{Inferred}
 use Rattle.assumption_slots.specs.Slots.{stock}
 use Rattle.inference_search.specs.Inferences.{facts, inference, RecordedIn}
 use Rattle.inference_search.specs.Found.{AreMadeBy}
-use Rattle.label_engine.specs.Update.{AreNeeded}
+use Rattle.label_engine.specs.Update.{AreNeeded, AreAlso}
 use Rattle.label_engine.proofs.Needed.{was_found, said_now}
 
 pub decide : (slot k : ℕ) → (k ≡ slot) ⊎ (k ≢ slot)
@@ -207,10 +207,7 @@ module _ (slots : List (Option Assumption)) (w : Update) (rest : IsAtRest (befor
     reading_begins dues e = rw (e, rest.none_due, rest.none_at_hand, rest.nothing_waits) first_due
 
   -- a component: its inferences are recorded, and what they lead to is due or at hand
-  module _ (part : List Instance) (works : stock slots w.slot ≡ Some (Part part)) (all found : List Inferred) (made : AreMadeBy slots (facts_of w.nodes.list.items) w.slot all) (needed : AreNeeded w.recorded all found) where
-    abbrev New : List Inferred
-    New = w.recorded ++ found
-
+  module _ (part : List Instance) (works : stock slots w.slot ≡ Some (Part part)) (all found : List Inferred) (made : AreMadeBy slots (facts_of w.nodes.list.items) w.slot all) (needed : AreNeeded w.recorded all found) (New : List Inferred) (also : AreAlso found w.recorded New) where
     abbrev Dues : List Insertion
     Dues = map (due_with env) (filter goes_from_none found)
 
@@ -218,25 +215,25 @@ module _ (slots : List (Option Assumption)) (w : Update) (rest : IsAtRest (befor
     Items = items_from w.nodes.list.items found
 
     front : (j : RecordedInference) → Old j → RecordedIn New j
-    front j r = (r.0, IsIn-left w.recorded found r.0 r.1, r.2)
+    front j r = (r.0, (also r.0).1 (inl r.1), r.2)
 
     still : (to : Target) (maker : Option ℕ) (known : Fact → Type 0) → HasInference Old to maker known → HasInference (RecordedIn New) to maker known
     still to maker known j = (j.0, front j.0 j.1, j.2, j.3, j.4)
 
     now : (to : Target) (maker : Option ℕ) (known : Fact → Type 0) → HasInference (RecordedIn all) to maker known → HasInference (RecordedIn New) to maker known
-    now = said_now w.recorded all found needed
+    now = said_now w.recorded all found New needed also
 
     makes : (i : Inferred) → IsIn found i → i.maker ≡ Some w.slot
     makes i h = made.maker i (needed.of_found i h)
 
     split : (j : RecordedInference) → RecordedIn New j → Old j ⊎ RecordedIn found j
-    split j r = elim (IsIn-append w.recorded found r.0 r.1) [ inl o ↦ inl (r.0, o, r.2) | inr n ↦ inr (r.0, n, r.2) ]
+    split j r = elim ((also r.0).0 r.1) [ inl o ↦ inl (r.0, o, r.2) | inr n ↦ inr (r.0, n, r.2) ]
 
     now_recorded : AreRecorded (stock slots) Met All (RecordedIn New)
     now_recorded = record {
       leads = λ j r. elim (split j r) [
         | inl o ↦ leads_more S (stock slots) w.slot more j.from j.maker j.to (rest.up_to_date.are.leads j o)
-        | inr n ↦ made.are.leads j (was_found w.recorded all found needed j n)
+        | inr n ↦ made.are.leads j (was_found w.recorded all found New needed also j n)
       ];
       forced = λ k p instance known q v c named of_part _ held at forces. elim (decide w.slot k) [
         | inl e ↦ now _ _ _ (made.are.forced k p instance known q v c named of_part (ap (λ (x : ℕ). Some x) e) held at forces)
@@ -257,7 +254,7 @@ module _ (slots : List (Option Assumption)) (w : Update) (rest : IsAtRest (befor
 
     waiting : IsWaitingSound (stock slots) (RecordedIn New) (IsAtHand Items)
     waiting = record {
-      inference = λ j f E x. (x.0.inferred, IsIn-right w.recorded found x.0.inferred (of_items w.nodes.list.items found x.0 x.1).found, x.2);
+      inference = λ j f E x. (x.0.inferred, (also x.0.inferred).1 (inr (of_items w.nodes.list.items found x.0 x.1).found), x.2);
       antecedent = λ j f E x.
           let it : IsItemFrom w.nodes.list.items found x.0 = of_items w.nodes.list.items found x.0 x.1 in
           let P : RecordedInference → Type 0 = λ i. IsIn i.from f in
@@ -362,6 +359,6 @@ module _ (slots : List (Option Assumption)) (w : Update) (rest : IsAtRest (befor
     all_begun = record { propagating = all_propagating; sourced = all_sourced }
 
     pub part_begins :
-        (recorded : List Inferred) (dues : List Insertion) (items : List Pending) → recorded ≡ New → dues ≡ w.due.items ++ Dues → items ≡ w.work.items ++ Items
-        → Holds slots w.slot w.nodes recorded dues items w.agenda
-    part_begins recorded dues items r d i = rw (r, d, i, rest.none_due, rest.none_at_hand, rest.nothing_waits) all_begun
+        (dues : List Insertion) (items : List Pending) → dues ≡ w.due.items ++ Dues → items ≡ w.work.items ++ Items
+        → Holds slots w.slot w.nodes New dues items w.agenda
+    part_begins dues items d i = rw (d, i, rest.none_due, rest.none_at_hand, rest.nothing_waits) all_begun

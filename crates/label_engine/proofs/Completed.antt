@@ -1,5 +1,5 @@
 -- Unions that contain a nogood by one of their slots.
-use Rattle.std.proofs.Common.{◌≡◌, ℕ, inl, inr, ◌==◌, None, IsTrue, sym, ap, subst, ◌∙◌, List, arith}
+use Rattle.std.proofs.Common.{◌≡◌, ℕ, inl, inr, ◌==◌, None, IsTrue, sym, ap, subst, ◌∙◌, List}
 use Rattle.std.proofs.lemmas.Bool.{or_cases, or_left, or_right, eqb-true}
 use Rattle.environment_sets.specs.declared.environment.Env.{Env}
 use Rattle.environment_sets.specs.Sets.{Set, ◌∪◌, Hits}

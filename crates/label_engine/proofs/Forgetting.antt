@@ -1,7 +1,7 @@
 -- Without an assumption that was remembered: labels and nogoods without its slot.
-use Rattle.std.proofs.Common.{◌≡◌, ◌≢◌, ℕ, zero, suc, ◌⊎◌, inl, inr, Bool, true, false, ◌==◌, ◌&&◌, not, cond, IsTrue, IsFalse, true≢false, refl, sym, ap, subst, ◌∙◌, List, [], ◌∷◌, set, filter, Option, Some, None, IsSome, arith}
+use Rattle.std.proofs.Common.{◌≡◌, ◌≢◌, ℕ, zero, suc, ◌⊎◌, inl, inr, true, false, ◌==◌, cond, IsTrue, IsFalse, true≢false, refl, sym, ap, subst, ◌∙◌, List, [], ◌∷◌, set, filter, Option, Some, None, IsSome, arith}
 use Rattle.std.specs.List.{find}
-use Rattle.std.proofs.lemmas.Bool.{and_from, and_parts, not-true, not_from_false, false_from_ne_true}
+use Rattle.std.proofs.lemmas.Bool.{false_from_ne_true}
 use Rattle.std.proofs.lemmas.Bool.Decides.{nat_tests}
 use Rattle.circuit_model.specs.declared.model.Cell.{Cell}
 use Rattle.circuit_model.specs.declared.model.Fact.{Fact}
@@ -13,26 +13,26 @@ use Rattle.circuit_model.specs.Stock.{Stock, IsEnvironment}
 use Rattle.circuit_model.proofs.Monotony.{AreHeld-map, IsForced-map, IsRefuted-map}
 use Rattle.environment_sets.specs.declared.environment.Env.{Env}
 use Rattle.environment_sets.specs.Sets.{Set}
-use Rattle.environment_sets.specs.Members.{HasMember}
+use Rattle.environment_sets.specs.Members.{members, HasMember}
 use Rattle.environment_sets.specs.Lists.{IsIn, AreDistinct}
 use Rattle.environment_sets.specs.Families.{IsCovered, Drops}
-use Rattle.environment_sets.proofs.Listings.{IsIn-filter, IsIn-kept}
-use Rattle.environment_sets.proofs.Membership.{IsIn-map, map-IsIn, list_any-IsIn}
+use Rattle.environment_sets.proofs.Listings.{IsIn-filter}
+use Rattle.environment_sets.proofs.Membership.{IsIn-map, map-IsIn}
 use Rattle.propagation.specs.Propagating.{Target, Family, RecordedInference, IsMaker, Leads, All, AreRecorded, HasInference, IsEither}
 use Rattle.propagation.proofs.Entry.{has_in_part}
 use Rattle.inference_search.specs.declared.inferred.Inferred.{Inferred}
-use Rattle.inference_search.specs.Inferences.{facts, RecordedIn}
+use Rattle.inference_search.specs.Inferences.{RecordedIn}
 use Rattle.assumption_slots.specs.Slots.{stock}
 use Rattle.label_engine.specs.declared.node.Node.{Node}
 use Rattle.label_engine.specs.declared.update.Update.{Update}
 use Rattle.label_engine.specs.Nodes.{is_same, facts_of, envs_of, label_in, KeptIn, has_any, is_supported}
-use Rattle.label_engine.specs.Update.{is_made_at, is_met_or_none, is_still_met, HasForgotten, IsAtRest}
+use Rattle.label_engine.specs.Update.{IsForgotten, HasForgotten, IsAtRest}
+use Rattle.recorded_inferences.specs.Recorded.{GoesFrom}
 use Rattle.label_engine.specs.Engine.{Seen, label_of, label_at, kept_of, Forgets}
 use Rattle.label_engine.proofs.Asked.{seen}
 use Rattle.label_engine.proofs.Kept.{label_of_nodes}
-use Rattle.label_engine.proofs.Labelled.{is_at, same_fact, fact_same_of, dropped_label, dropped_facts}
+use Rattle.label_engine.proofs.Labelled.{is_at, same_fact, fact_same, fact_same_of, dropped_label, dropped_facts}
 use Rattle.label_engine.proofs.Remembering.{set_elsewhere}
-use Rattle.label_engine.proofs.TakingBack.{member_met}
 
 -- a set without the slot
 abbrev without : ℕ → Set ℕ → Set ℕ
@@ -64,7 +64,7 @@ module _ (S R : Stock ℕ) (slot : ℕ) (free : S slot ≡ None) (others : (k : 
   more : HasOneMore ℕ S R slot
   more = (λ k a e. sym (others k (not_there k a e)) ∙ e, λ k a ne e. others k ne ∙ e)
 
-  leads_less : (from : List Fact) (maker : Option ℕ) (to : Target) → (maker ≡ Some slot → ⊥) → Leads R from maker to → Leads S from maker to
+  pub leads_less : (from : List Fact) (maker : Option ℕ) (to : Target) → (maker ≡ Some slot → ⊥) → Leads R from maker to → Leads S from maker to
   leads_less from maker to other leads = elim to as (λ t. Leads R from maker t → Leads S from maker t) [
     | Some g ↦ λ h. IsForced-map maker_stays (λ f i. i) h
     | None ↦ λ h. elim h [ inl r ↦ inl (IsRefuted-map maker_stays (λ f i. i) r) | inr two ↦ inr two ]
@@ -111,9 +111,9 @@ module _ (S R : Stock ℕ) (slot : ℕ) (free : S slot ≡ None) (others : (k : 
       two_words = λ c v w E differ low high. covered_from None E (s.two_words c v w (without slot E) differ (covered_to (Some (fact c v)) E low) (covered_to (Some (fact c w)) E high));
     }
 
-  -- what is recorded without what the slot made and what goes from facts that are met no more
+  -- what is recorded from facts that are met
   module _
-      (met met' : Fact → Type 0) (recorded recorded' : RecordedInference → Type 0) (fewer : (f : Fact) → met' f → met f) (was : (j : RecordedInference) → recorded' j → recorded j × (j.maker ≡ Some slot → ⊥))
+      (met met' : Fact → Type 0) (recorded recorded' : RecordedInference → Type 0) (fewer : (f : Fact) → met' f → met f) (leads : (j : RecordedInference) → recorded' j → Leads S j.from j.maker j.to)
       (stays : (j : RecordedInference) → recorded j → (j.maker ≡ Some slot → ⊥) → ((f : Fact) → IsIn j.from f → met' f) → recorded' j)
     where
       has : (to : Target) (maker : Option ℕ) (known : Fact → Type 0) → (maker ≡ Some slot → ⊥) → ((f : Fact) → known f → met' f) → HasInference recorded to maker known → HasInference recorded' to maker known
@@ -128,48 +128,13 @@ module _ (S R : Stock ℕ) (slot : ℕ) (free : S slot ≡ None) (others : (k : 
 
       pub recorded_without : AreRecorded R met All recorded → AreRecorded S met' All recorded'
       recorded_without are = record {
-        leads = λ j r. let w = was j r in leads_less j.from j.maker j.to w.1 (are.leads j w.0);
+        leads = leads;
         forced = λ k part instance known p v c at of_part scope held port forces.
             has (Some (fact c v)) (Some k) _ (λ e. not_there k _ at (cc)) (λ f i. held.held i.port f.value f.cell i.word i.cell) (are.forced k part instance known p v c (more.0 k _ at) of_part scope (AreHeld-map fewer held) port forces);
         refuted = λ k part instance known at of_part scope held refutes.
             has None (Some k) _ (λ e. not_there k _ at (cc)) (λ f i. held.held i.port f.value f.cell i.word i.cell) (are.refuted k part instance known (more.0 k _ at) of_part scope (AreHeld-map fewer held) refutes);
         two_words = λ c v w differ scope low high. has None None _ (λ e. none_is_none e) (λ f i. either_met c v w low high f i) (are.two_words c v w differ scope (fewer _ low) (fewer _ high));
       }
-
--- the inferences that are still met
-module _ (nodes : List Node) (slot : ℕ) where
-  made_at : (maker : Option ℕ) → IsTrue (is_made_at slot maker) → maker ≡ Some slot
-  made_at None h = absurd (true≢false (sym h))
-  made_at (Some k) h = let same : k ≡ slot = grind (arith, nat_tests) in ap (λ (n : ℕ). Some n) same
-
-  at_made : (maker : Option ℕ) → maker ≡ Some slot → IsTrue (is_made_at slot maker)
-  at_made maker e = let P : Option ℕ → Type 0 = λ m. IsTrue (is_made_at slot m) in let same : (slot == slot) ≡ true = grind (arith, nat_tests) in subst P (sym e) same
-
-  met_or_none : (o : Option Fact) → ((f : Fact) → o ≡ Some f → IsIn (facts_of nodes) f) → IsTrue (is_met_or_none nodes o)
-  met_or_none None h = refl
-  met_or_none (Some f) h =
-      let n : (n : Node) × IsIn nodes n × (n.fact ≡ f) = IsIn-map (λ (x : Node). x.fact) nodes f (h f refl) in
-      list_any-IsIn (λ x. is_same x.fact f) nodes n.0 n.1 (fact_same_of n.0.fact f n.2)
-
-  first_of : (a b : Option Fact) (f : Fact) → a ≡ Some f → IsIn (facts a b) f
-  first_of None b f e = let bad : None ≡ Some f = e in absurd (cc)
-  first_of (Some g) None f e = inl (cc)
-  first_of (Some g) (Some h) f e = inl (cc)
-
-  second_of : (a b : Option Fact) (f : Fact) → b ≡ Some f → IsIn (facts a b) f
-  second_of a None f e = let bad : None ≡ Some f = e in absurd (cc)
-  second_of None (Some h) f e = inl (cc)
-  second_of (Some g) (Some h) f e = inr (inl (cc))
-
-  still_of : (i : Inferred) → (i.maker ≡ Some slot → ⊥) → ((f : Fact) → IsIn (facts i.first i.second) f → IsIn (facts_of nodes) f) → IsTrue (is_still_met nodes slot i)
-  still_of i other all =
-      and_from _ _ (not_from_false _ (false_from_ne_true _ (λ h. other (made_at i.maker h))))
-      (and_from _ _ (met_or_none i.first (λ f e. all f (first_of i.first i.second f e))) (met_or_none i.second (λ f e. all f (second_of i.first i.second f e))))
-
-  of_still : (i : Inferred) → IsTrue (is_still_met nodes slot i) → i.maker ≡ Some slot → ⊥
-  of_still i h e =
-      let parts : IsTrue (not (is_made_at slot i.maker)) × IsTrue (is_met_or_none nodes i.first && is_met_or_none nodes i.second) = and_parts _ _ h in
-      true≢false (sym (at_made i.maker e) ∙ not-true (is_made_at slot i.maker) parts.0)
 
 -- nodes with no environment are left out
 label_unmet : (nodes : List Node) (f : Fact) → (IsIn (facts_of nodes) f → ⊥) → label_in nodes f ≡ []
@@ -211,6 +176,44 @@ label_supported (n ∷ nodes) d f =
       ] refl
     ] refl
 
+-- a fact that was met has a node whose label is its own
+met_label : (nodes : List Node) (f : Fact) → IsIn (facts_of nodes) f → (n : Node) × IsIn nodes n × (label_in nodes f ≡ n.label)
+met_label [] f h = absurd h
+met_label (n ∷ nodes) f h =
+    elim (is_same n.fact f) as (λ b. is_same n.fact f ≡ b → (m : Node) × IsIn (n ∷ nodes) m × (envs_of (cond b (Some n) (find (is_at f) nodes)) ≡ m.label)) [
+      | true ↦ λ _. (n, inl refl, refl)
+      | false ↦ λ out. elim h [
+        | inl e ↦ absurd (true≢false (sym (fact_same_of n.fact f e) ∙ out))
+        | inr later ↦ let r : (m : Node) × IsIn nodes m × (label_in nodes f ≡ m.label) = met_label nodes f later in (r.0, inr r.1, r.2)
+      ]
+    ] refl
+
+-- where no fact has two nodes, the label of a node's fact is the node's
+own_label : (nodes : List Node) → AreDistinct (facts_of nodes) → (n : Node) → IsIn nodes n → label_in nodes n.fact ≡ n.label
+own_label [] d n h = absurd h
+own_label (m ∷ nodes) d n (inl e) =
+    let P : Node → Type 0 = λ x. label_in (m ∷ nodes) x.fact ≡ x.label in
+    subst P e (ap (λ b. envs_of (cond b (Some m) (find (is_at m.fact) nodes))) (fact_same m.fact))
+own_label (m ∷ nodes) d n (inr later) =
+    elim (is_same m.fact n.fact) as (λ b. is_same m.fact n.fact ≡ b → envs_of (cond b (Some m) (find (is_at n.fact) nodes)) ≡ n.label) [
+      | true ↦ λ is. absurd (d.0 m.fact (subst (λ (f : Fact). IsIn (facts_of nodes) f) (sym (same_fact m.fact n.fact is)) (map-IsIn (λ (x : Node). x.fact) nodes n later)) refl)
+      | false ↦ λ _. own_label nodes d.1 n later
+    ] refl
+
+-- a label that has any environment has a member
+some_member : (es : List Env) → IsTrue (has_any es) → (E : Set ℕ) × HasMember es E
+some_member [] h = absurd (true≢false (sym h))
+some_member (e ∷ es) h = (members e, inl refl)
+
+-- a fact with an environment was met
+pub member_met : (nodes : List Node) (f : Fact) (E : Set ℕ) → HasMember (label_in nodes f) E → IsIn (facts_of nodes) f
+member_met [] f E h = absurd h
+member_met (n ∷ nodes) f E h =
+    elim (is_same n.fact f) as (λ b. is_same n.fact f ≡ b → HasMember (envs_of (cond b (Some n) (find (is_at f) nodes))) E → IsIn (facts_of (n ∷ nodes)) f) [
+      | true ↦ λ is _. inl (same_fact n.fact f is)
+      | false ↦ λ _ k. inr (member_met nodes f E k)
+    ] refl h
+
 -- the update without the slot
 module _ (old new : Update) (slot : ℕ) (gone : HasForgotten slot old new) (once : AreDistinct (facts_of old.nodes.list.items)) where
   abbrev Old : List Node
@@ -220,55 +223,78 @@ module _ (old new : Update) (slot : ℕ) (gone : HasForgotten slot old new) (onc
   New = new.nodes.list.items
 
   abbrev Left : List Node
-  Left = gone.labels.dropped
+  Left = gone.dropped
 
   once_left : AreDistinct (facts_of Left)
-  once_left = subst AreDistinct (sym (dropped_facts (λ F. IsTrue (F slot)) Old Left gone.labels.labels)) once
+  once_left = subst AreDistinct (sym (dropped_facts (λ F. IsTrue (F slot)) Old Left gone.labels)) once
 
   label_new : (f : Fact) → label_in New f ≡ label_in Left f
-  label_new f = ap (λ l. label_in l f) gone.labels.supported ∙ label_supported Left once_left f
+  label_new f = ap (λ l. label_in l f) gone.supported ∙ label_supported Left once_left f
 
   pub drops_new : (t : Target) → Drops (KeptIn old.nodes t) (KeptIn new.nodes t) (λ F. IsTrue (F slot))
   drops_new None = gone.nogoods
   drops_new (Some f) =
       let P : List Env → Type 0 = λ es. Drops (HasMember (label_in Old f)) (HasMember es) (λ F. IsTrue (F slot)) in
-      subst P (sym (label_new f)) (dropped_label (λ F. IsTrue (F slot)) Old Left f gone.labels.labels)
+      subst P (sym (label_new f)) (dropped_label (λ F. IsTrue (F slot)) Old Left f gone.labels)
 
   pub once_new : AreDistinct (facts_of New)
-  once_new = let P : List Node → Type 0 = λ l. AreDistinct (facts_of l) in subst P (sym gone.labels.supported) (distinct_left Left once_left)
+  once_new = let P : List Node → Type 0 = λ l. AreDistinct (facts_of l) in subst P (sym gone.supported) (distinct_left Left once_left)
 
-  met_before : (f : Fact) → IsIn (facts_of New) f → IsIn (facts_of Old) f
-  met_before f h =
+  -- a fact that is met has an environment
+  pub met_supported : (f : Fact) → IsIn (facts_of New) f → (E : Set ℕ) × KeptIn new.nodes (Some f) E
+  met_supported f h =
       let P : List Node → Type 0 = λ l. IsIn (facts_of l) f in
-      subst (λ (l : List Fact). IsIn l f) (dropped_facts (λ F. IsTrue (F slot)) Old Left gone.labels.labels) (facts_fewer Left f (subst P gone.labels.supported h))
+      let n : (n : Node) × IsIn (filter is_supported Left) n × (label_in (filter is_supported Left) f ≡ n.label) = met_label (filter is_supported Left) f (subst P gone.supported h) in
+      let E : (E : Set ℕ) × HasMember n.0.label E = some_member n.0.label (IsIn-filter is_supported Left n.0 n.1).1 in
+      (E.0, subst (λ (es : List Env). HasMember es E.0) (sym (ap (λ l. label_in l f) gone.supported ∙ n.2)) E.1)
 
-  abbrev Still : Inferred → Bool
-  Still = is_still_met New slot
+  -- what goes from facts that are met, and the slot did not make, is not forgotten
+  pub stays_recorded : (i : Inferred) → IsIn old.recorded i → (i.maker ≡ Some slot → ⊥) → ((f : Fact) → GoesFrom f i → IsIn (facts_of New) f) → IsIn new.recorded i
+  stays_recorded i there other all =
+      (gone.recorded i).1 (
+        there,
+        λ forgotten. elim forgotten [
+          | inl made ↦ other made
+          | inr from ↦
+              let has : (E : Set ℕ) × KeptIn new.nodes (Some from.0.fact) E = met_supported from.0.fact (all from.0.fact from.3) in
+              let none : label_in New from.0.fact ≡ [] = label_new from.0.fact ∙ (own_label Left once_left from.0 from.1 ∙ none_supports from.0.label from.2) in
+              subst (λ (es : List Env). HasMember es has.0) none has.1
+        ],
+      )
 
   recorded_was : (j : RecordedInference) → RecordedIn new.recorded j → RecordedIn old.recorded j × (j.maker ≡ Some slot → ⊥)
   recorded_was j r =
-      let there : IsIn old.recorded r.0 × IsTrue (Still r.0) = IsIn-filter Still old.recorded r.0 (subst (λ (l : List Inferred). IsIn l r.0) gone.recorded r.1) in
-      ((r.0, there.0, r.2), λ e. of_still New slot r.0 there.1 (ap (λ (x : RecordedInference). x.maker) r.2 ∙ e))
+      let was : IsIn old.recorded r.0 × (IsForgotten slot Left r.0 → ⊥) = (gone.recorded r.0).0 r.1 in
+      ((r.0, was.0, r.2), λ e. was.1 (inl (ap (λ (x : RecordedInference). x.maker) r.2 ∙ e)))
 
   recorded_stays : (j : RecordedInference) → RecordedIn old.recorded j → (j.maker ≡ Some slot → ⊥) → ((f : Fact) → IsIn j.from f → IsIn (facts_of New) f) → RecordedIn new.recorded j
   recorded_stays j r other all =
       let P : RecordedInference → Type 0 = λ x. (f : Fact) → IsIn x.from f → IsIn (facts_of New) f in
-      let is : IsTrue (Still r.0) = still_of New slot r.0 (λ e. other (sym (ap (λ (x : RecordedInference). x.maker) r.2) ∙ e)) (subst P (sym r.2) all) in
-      (r.0, subst (λ (l : List Inferred). IsIn l r.0) (sym gone.recorded) (IsIn-kept Still old.recorded r.0 r.1 is), r.2)
+      (r.0, stays_recorded r.0 r.1 (λ e. other (sym (ap (λ (x : RecordedInference). x.maker) r.2) ∙ e)) (subst P (sym r.2) all), r.2)
 
-  module _ (S R : Stock ℕ) (free : S slot ≡ None) (others : (k : ℕ) → k ≢ slot → S k ≡ R k) (rest : IsAtRest R old) where
-    pub forgotten : IsAtRest S new
-    forgotten = record {
-      up_to_date = record {
-        settled = settled_without S R slot free others (KeptIn old.nodes) (KeptIn new.nodes) drops_new rest.up_to_date.settled;
-        are = recorded_without S R slot free others (IsIn (facts_of Old)) (IsIn (facts_of New)) (RecordedIn old.recorded) (RecordedIn new.recorded) met_before recorded_was recorded_stays rest.up_to_date.are;
-        were_met = λ f E k. member_met New f E k;
-        once = once_new;
-      };
-      none_due = gone.due_same ∙ rest.none_due;
-      none_at_hand = gone.work_same ∙ rest.none_at_hand;
-      nothing_waits = gone.agenda_same ∙ rest.nothing_waits;
-    }
+  -- what is recorded are inferences of what is remembered without the slot
+  module _ (S R : Stock ℕ) (free : S slot ≡ None) (others : (k : ℕ) → k ≢ slot → S k ≡ R k) where
+    pub leads_new : ((j : RecordedInference) → RecordedIn old.recorded j → Leads R j.from j.maker j.to) → (j : RecordedInference) → RecordedIn new.recorded j → Leads S j.from j.maker j.to
+    leads_new leads j r = let was : RecordedIn old.recorded j × (j.maker ≡ Some slot → ⊥) = recorded_was j r in leads_less S R slot free others j.from j.maker j.to was.1 (leads j was.0)
+
+    module _ (rest : IsAtRest R old) where
+      met_before : (f : Fact) → IsIn (facts_of New) f → IsIn (facts_of Old) f
+      met_before f h = let has : (E : Set ℕ) × KeptIn new.nodes (Some f) E = met_supported f h in rest.up_to_date.were_met f has.0 ((drops_new (Some f) has.0).0 has.1).0
+
+      pub forgotten : IsAtRest S new
+      forgotten = record {
+        up_to_date = record {
+          settled = settled_without S R slot free others (KeptIn old.nodes) (KeptIn new.nodes) drops_new rest.up_to_date.settled;
+          are =
+              recorded_without S R slot free others (IsIn (facts_of Old)) (IsIn (facts_of New)) (RecordedIn old.recorded) (RecordedIn new.recorded) met_before
+              (leads_new rest.up_to_date.are.leads) recorded_stays rest.up_to_date.are;
+          were_met = λ f E k. member_met New f E k;
+          once = once_new;
+        };
+        none_due = gone.due_same ∙ rest.none_due;
+        none_at_hand = gone.work_same ∙ rest.none_at_hand;
+        nothing_waits = gone.agenda_same ∙ rest.nothing_waits;
+      }
 
 -- the slot is freed
 freed_here : (xs : List (Option Assumption)) (k : ℕ) → stock (set xs k None) k ≡ None

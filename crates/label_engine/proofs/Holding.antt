@@ -1,6 +1,6 @@
 -- What holds of the lists, kept by each step.
-use Rattle.std.proofs.Common.{◌≡◌, ℕ, ◌+◌, ◌*◌, ◌^◌, ◌<◌, ◌⊎◌, inl, inr, ◌||◌, Bool, true, false, not, IsTrue, true≢false, IfSome, refl, sym, ap, subst, ◌∙◌, List, [], ◌∷◌, ◌++◌, filter, Option, Some, None, arith}
-use Rattle.std.proofs.lemmas.Bool.{and_from, and_parts, or_cases, or_left, or_right}
+use Rattle.std.proofs.Common.{◌≡◌, ℕ, ◌+◌, ◌*◌, ◌^◌, ◌<◌, ◌⊎◌, inl, inr, Bool, true, false, not, IsTrue, true≢false, IfSome, refl, sym, ap, subst, ◌∙◌, List, [], ◌∷◌, ◌++◌, filter, Option, Some, None, arith}
+use Rattle.std.proofs.lemmas.Bool.{and_from}
 use Rattle.environment_sets.proofs.Listings.{IsIn-filter, IsIn-kept}
 use Rattle.environment_sets.proofs.Membership.{IsIn-append, IsIn-left, IsIn-map, IsIn-right, map-IsIn}
 use Rattle.circuit_model.specs.declared.model.Fact.{Fact}
@@ -24,12 +24,13 @@ use Rattle.inference_search.specs.declared.inferred.Inferred.{Inferred}
 use Rattle.label_engine.specs.declared.update.Arrival.{Arrival}
 use Rattle.label_engine.specs.declared.update.Pending.{Pending}
 use Rattle.label_engine.specs.Nodes.{facts_of, KeptIn, reaches}
-use Rattle.label_engine.specs.Update.{is_same_target, goes_from, AreNeeded, DueIn, DueBy, IsAtHand, HasCome, HasComeBy, Holds, ends_in, is_made_at, is_passed, IsPassed, goes_to, item_at, items_to, items_at, arrivals_at}
+use Rattle.label_engine.specs.Update.{AreNeeded, AreAlso, DueIn, DueBy, IsAtHand, HasCome, HasComeBy, Holds, ends_in, is_made_at, is_passed, is_next, IsPassed, item_at, items_to, items_at, arrivals_at}
+use Rattle.recorded_inferences.specs.Recorded.{GoesFrom, AreUses}
 use Rattle.assumption_slots.specs.Slots.{stock}
-use Rattle.inference_search.specs.Inferences.{facts, inference, RecordedIn}
+use Rattle.inference_search.specs.Inferences.{inference, RecordedIn}
 use Rattle.inference_search.specs.Found.{AreFound}
 use Rattle.label_engine.proofs.Needed.{needed_are}
-use Rattle.label_engine.proofs.Families.{same_target, target_same, reached_is, is_reached_of, not_reached_is}
+use Rattle.label_engine.proofs.Families.{reached_is, is_reached_of, not_reached_is}
 
 module _ (slots : List (Option Assumption)) (slot : ℕ) (labels : Nodes) (recorded : List Inferred) (due : Insertion) (dues : List Insertion) (work : List Pending) (agenda : List Arrival) where
   abbrev Before : Type 0
@@ -59,21 +60,21 @@ module _ (slots : List (Option Assumption)) (slot : ℕ) (labels : Nodes) (recor
 
   -- a fact comes met
   pub holds_met :
-      Before → (f : Fact) → (IsIn Met f → ⊥) → (found needed : List Inferred) → AreFound slots Met f found → AreNeeded recorded found needed
-      → IsPropagating (stock slots) slot (IsIn (Met ++ f ∷ [])) (KeptIn labels) (RecordedIn (recorded ++ needed)) (DueIn (due ∷ dues)) (IsAtHand work) (HasCome agenda)
-  holds_met was f unmet found needed are are_needed =
+      Before → (f : Fact) → (IsIn Met f → ⊥) → (found needed all : List Inferred) → AreFound slots Met f found → AreNeeded recorded found needed → AreAlso needed recorded all
+      → IsPropagating (stock slots) slot (IsIn (Met ++ f ∷ [])) (KeptIn labels) (RecordedIn all) (DueIn (due ∷ dues)) (IsAtHand work) (HasCome agenda)
+  holds_met was f unmet found needed all are are_needed also =
       whole.fact_met (stock slots) slot (IsIn Met) (KeptIn labels) (RecordedIn recorded) (DueIn (due ∷ dues)) (IsAtHand work) (HasCome agenda) was.propagating f
       unmet
       (IsIn (Met ++ f ∷ [])) (λ g a. IsIn-left Met (f ∷ []) g a)
-      (RecordedIn (recorded ++ needed)) more new
-      (recorded_met (stock slots) (IsIn Met) (IsIn (Met ++ f ∷ [])) f split (RecordedIn recorded) (RecordedIn (recorded ++ needed)) (RecordedIn (recorded ++ needed)) was.propagating.are more (λ j r. r) (λ j r. inr r) (needed_are recorded found needed are_needed (stock slots) (λ g. IsIn Met g ⊎ (g ≡ f)) (Using f) was.propagating.are.leads are.are))
+      (RecordedIn all) more new
+      (recorded_met (stock slots) (IsIn Met) (IsIn (Met ++ f ∷ [])) f split (RecordedIn recorded) (RecordedIn all) (RecordedIn all) was.propagating.are more (λ j r. r) (λ j r. inr r) (needed_are recorded found needed all are_needed also (stock slots) (λ g. IsIn Met g ⊎ (g ≡ f)) (Using f) was.propagating.are.leads are.are))
     where
-      more : (j : RecordedInference) → RecordedIn recorded j → RecordedIn (recorded ++ needed) j
-      more j r = (r.0, IsIn-left recorded needed r.0 r.1, r.2)
+      more : (j : RecordedInference) → RecordedIn recorded j → RecordedIn all j
+      more j r = (r.0, (also r.0).1 (inl r.1), r.2)
 
-      new : (j : RecordedInference) → RecordedIn (recorded ++ needed) j → RecordedIn recorded j ⊎ IsIn j.from f
+      new : (j : RecordedInference) → RecordedIn all j → RecordedIn recorded j ⊎ IsIn j.from f
       new j r =
-          elim (IsIn-append recorded needed r.0 r.1) [
+          elim ((also r.0).0 r.1) [
             | inl o ↦ inl (r.0, o, r.2)
             | inr n ↦ inr (let P : RecordedInference → Type 0 = λ i. IsIn i.from f in subst P r.2 (are.uses r.0 (are_needed.of_found r.0 n)))
           ]
@@ -160,66 +161,43 @@ module _ (slots : List (Option Assumption)) (slot : ℕ) (labels : Nodes) (recor
           (is_reached_of after due.target (members due.env) (reached_there due.target (members due.env) (KeptIn labels) (KeptIn after) put (members due.env) (λ k h. h)))
 
 -- an environment that came is taken: each recorded inference from its fact is at hand with it
-module _ (recorded : List Inferred) (f : Fact) (e : Env) where
-  uses_it : (i : Inferred) → IsTrue (goes_from f i) → IsIn (facts i.first i.second) f
-  uses_it i h = uses_facts i.first i.second (elim (or_cases _ _ h) [ inl a ↦ inl (same_target _ _ a) | inr b ↦ inr (same_target _ _ b) ])
-    where
-      uses_facts : (a b : Option Fact) → (a ≡ Some f) ⊎ (b ≡ Some f) → IsIn (facts a b) f
-      uses_facts None None (inl e) = absurd (cc)
-      uses_facts None None (inr e) = absurd (cc)
-      uses_facts None (Some b) (inl e) = absurd (cc)
-      uses_facts None (Some b) (inr e) = inl (cc)
-      uses_facts (Some a) None (inl e) = inl (cc)
-      uses_facts (Some a) None (inr e) = absurd (cc)
-      uses_facts (Some a) (Some b) (inl e) = inl (cc)
-      uses_facts (Some a) (Some b) (inr e) = inr (inl (cc))
-
-  used : (a b : Option Fact) → IsIn (facts a b) f → IsTrue (is_same_target a (Some f) || is_same_target b (Some f))
-  used None None h = absurd h
-  used None (Some b) (inl e) = target_same (Some b) (Some f) (ap (λ x. Some x) e)
-  used None (Some b) (inr h) = absurd h
-  used (Some a) None (inl e) = or_left _ _ (target_same (Some a) (Some f) (ap (λ x. Some x) e))
-  used (Some a) None (inr h) = absurd h
-  used (Some a) (Some b) (inl e) = or_left _ _ (target_same (Some a) (Some f) (ap (λ x. Some x) e))
-  used (Some a) (Some b) (inr (inl e)) = or_right _ _ (target_same (Some b) (Some f) (ap (λ x. Some x) e))
-  used (Some a) (Some b) (inr (inr h)) = absurd h
-
+module _ (recorded uses : List Inferred) (f : Fact) (e : Env) (are : AreUses recorded f uses) where
   module _ (passed : Option ℕ) where
-    item_to : (clash : Bool) (i : Inferred) → IsIn recorded i → IsTrue (ends_in clash i.to) → is_passed passed i ≡ false → IsTrue (goes_from f i) → IsIn (items_to passed clash f e recorded) (item_at f e i)
-    item_to clash i r ends stays u = map-IsIn (item_at f e) (filter (goes_to passed clash f) recorded) i (IsIn-kept (goes_to passed clash f) recorded i r (and_from _ _ (and_from _ _ ends (ap not stays)) u))
+    item_to : (clash : Bool) (i : Inferred) → IsIn uses i → IsTrue (ends_in clash i.to) → is_passed passed i ≡ false → IsIn (items_to passed clash f e uses) (item_at f e i)
+    item_to clash i r ends stays = map-IsIn (item_at f e) (filter (is_next passed clash) uses) i (IsIn-kept (is_next passed clash) uses i r (and_from _ _ ends (ap not stays)))
 
     ends_somehow : (t : Target) → IsTrue (ends_in false t) ⊎ IsTrue (ends_in true t)
     ends_somehow None = inr refl
     ends_somehow (Some g) = inl refl
 
-    item : (j : RecordedInference) (r : RecordedIn recorded j) → is_passed passed r.0 ≡ false → IsIn j.from f → IsAtHand (items_at passed f e recorded) j f (members e)
+    item : (j : RecordedInference) (r : RecordedIn recorded j) → is_passed passed r.0 ≡ false → IsIn j.from f → IsAtHand (items_at passed f e uses) j f (members e)
     item j r stays i =
-        let u : IsTrue (goes_from f r.0) = used r.0.first r.0.second (let P : RecordedInference → Type 0 = λ x. IsIn x.from f in subst P (sym r.2) i) in
-        let there : IsIn (items_at passed f e recorded) (item_at f e r.0) =
+        let u : IsIn uses r.0 = (are r.0).1 (r.1, (let P : RecordedInference → Type 0 = λ x. IsIn x.from f in subst P (sym r.2) i)) in
+        let there : IsIn (items_at passed f e uses) (item_at f e r.0) =
         elim (ends_somehow r.0.to) [
-          | inl value ↦ IsIn-left (items_to passed false f e recorded) (items_to passed true f e recorded) (item_at f e r.0) (item_to false r.0 r.1 value stays u)
-          | inr clash ↦ IsIn-right (items_to passed false f e recorded) (items_to passed true f e recorded) (item_at f e r.0) (item_to true r.0 r.1 clash stays u)
+          | inl value ↦ IsIn-left (items_to passed false f e uses) (items_to passed true f e uses) (item_at f e r.0) (item_to false r.0 u value stays)
+          | inr clash ↦ IsIn-right (items_to passed false f e uses) (items_to passed true f e uses) (item_at f e r.0) (item_to true r.0 u clash stays)
         ] in
         (item_at f e r.0, there, r.2, refl, refl)
 
     -- an item of either kind is of an inference that goes from the fact
-    from_to : (clash : Bool) (p : Pending) → IsIn (items_to passed clash f e recorded) p → (i : Inferred) × IsIn recorded i × IsTrue (goes_from f i) × (item_at f e i ≡ p)
+    from_to : (clash : Bool) (p : Pending) → IsIn (items_to passed clash f e uses) p → (i : Inferred) × IsIn uses i × (item_at f e i ≡ p)
     from_to clash p w =
-        let i : (i : Inferred) × IsIn (filter (goes_to passed clash f) recorded) i × (item_at f e i ≡ p) = IsIn-map (item_at f e) (filter (goes_to passed clash f) recorded) p w in
-        let r : IsIn recorded i.0 × IsTrue (goes_to passed clash f i.0) = IsIn-filter (goes_to passed clash f) recorded i.0 i.1 in
-        (i.0, r.0, (and_parts _ _ r.1).1, i.2)
+        let i : (i : Inferred) × IsIn (filter (is_next passed clash) uses) i × (item_at f e i ≡ p) = IsIn-map (item_at f e) (filter (is_next passed clash) uses) p w in
+        (i.0, (IsIn-filter (is_next passed clash) uses i.0 i.1).0, i.2)
 
-    item_of : (j : RecordedInference) (g : Fact) (m : Set ℕ) → IsAtHand (items_at passed f e recorded) j g m → RecordedIn recorded j × IsIn j.from f × (g ≡ f) × (m ≡ members e)
+    item_of : (j : RecordedInference) (g : Fact) (m : Set ℕ) → IsAtHand (items_at passed f e uses) j g m → RecordedIn recorded j × IsIn j.from f × (g ≡ f) × (m ≡ members e)
     item_of j g m w =
-        let i : (i : Inferred) × IsIn recorded i × IsTrue (goes_from f i) × (item_at f e i ≡ w.0) =
-        elim (IsIn-append (items_to passed false f e recorded) (items_to passed true f e recorded) w.0 w.1) [
+        let i : (i : Inferred) × IsIn uses i × (item_at f e i ≡ w.0) =
+        elim (IsIn-append (items_to passed false f e uses) (items_to passed true f e uses) w.0 w.1) [
           | inl value ↦ from_to false w.0 value
           | inr clash ↦ from_to true w.0 clash
         ] in
-        let at : f ≡ g = ap (λ (x : Pending). x.at) i.3 ∙ w.3 in
-        let same : inference i.0 ≡ j = ap (λ (x : Pending). inference x.inferred) i.3 ∙ w.2 in
+        let at : f ≡ g = ap (λ (x : Pending). x.at) i.2 ∙ w.3 in
+        let same : inference i.0 ≡ j = ap (λ (x : Pending). inference x.inferred) i.2 ∙ w.2 in
         let Q : RecordedInference → Type 0 = λ x. IsIn x.from f in
-        ((i.0, i.1, same), subst Q same (uses_it i.0 i.2), sym at, sym w.4 ∙ sym (ap (λ (x : Pending). members x.env) i.3))
+        let is : IsIn recorded i.0 × GoesFrom f i.0 = (are i.0).0 i.1 in
+        ((i.0, is.0, same), subst Q same is.1, sym at, sym w.4 ∙ sym (ap (λ (x : Pending). members x.env) i.2))
 
     -- what is passed over is made at the slot
     passed_is : (p : Option ℕ) (i : Inferred) → is_passed p i ≡ true → (k : ℕ) × (p ≡ Some k) × (i.maker ≡ Some k)
@@ -235,7 +213,7 @@ module _ (recorded : List Inferred) (f : Fact) (e : Env) where
       Taken = record { fact = f; env = e; source = source }
 
       abbrev Items : List Pending
-      Items = items_at passed f e recorded
+      Items = items_at passed f e uses
 
       left : (g : Fact) (m : Set ℕ) → HasCome (Taken ∷ agenda) g m → HasCome agenda g m ⊎ ((g ≡ f) × (m ≡ members e))
       left g m (a, inl same, at, is) = inr (sym at ∙ sym (ap (λ (x : Arrival). x.fact) same), sym is ∙ sym (ap (λ (x : Arrival). members x.env) same))

@@ -131,16 +131,6 @@ distinct_of (x ∷ xs) once = (
   distinct_of xs (λ i j f before one other. once (suc i) (suc j) f (omega (arith, before)) one other),
 )
 
--- with the first nodes alone
-front_get : (k : ℕ) (nodes : List Node) (i : ℕ) (f : Fact) → slice_get (facts_of (take k nodes)) i ≡ Some f → slice_get (facts_of nodes) i ≡ Some f
-front_get zero nodes i f e = absurd (cc)
-front_get (suc k) [] i f e = absurd (cc)
-front_get (suc k) (x ∷ xs) zero f e = e
-front_get (suc k) (x ∷ xs) (suc i) f e = front_get k xs i f e
-
-pub once_first : (k : ℕ) (nodes : List Node) → AreOnce nodes → AreOnce (take k nodes)
-once_first k nodes once i j f before one other = once i j f before (front_get k nodes i f one) (front_get k nodes j f other)
-
 pub once_none : (nodes : List Node) → nodes ≡ [] → AreOnce nodes
 once_none nodes none = let nowhere : AreOnce [] = λ i j f before one other. absurd (cc) in subst AreOnce (sym none) nowhere
 

@@ -10,7 +10,7 @@ use Rattle.environment_sets.proofs.Membership.{IsIn-append, IsIn-left, IsIn-righ
 use Rattle.propagation.specs.Propagating.{Target, RecordedInference, Leads, HasInference, Scope, AreRecorded}
 use Rattle.inference_search.specs.declared.inferred.Inferred.{Inferred}
 use Rattle.inference_search.specs.Inferences.{facts, inference, RecordedIn}
-use Rattle.label_engine.specs.Update.{is_same_target, is_same_maker, goes_from_any, says_as_much, SaysAsMuch, IsSaid, AreNeeded, IsNeededOrSaid}
+use Rattle.label_engine.specs.Update.{AreAlso, is_same_target, is_same_maker, goes_from_any, says_as_much, SaysAsMuch, IsSaid, AreNeeded, IsNeededOrSaid}
 use Rattle.label_engine.proofs.Families.{same_target}
 
 same_maker : (a b : Option ℕ) → IsTrue (is_same_maker a b) → a ≡ b
@@ -96,19 +96,19 @@ needs_one_more recorded found needed needed' i was (inr (same, said)) =
       ];
     })
 
-module _ (recorded found needed : List Inferred) (are : AreNeeded recorded found needed) where
+module _ (recorded found needed all : List Inferred) (are : AreNeeded recorded found needed) (also : AreAlso needed recorded all) where
   -- what is needed was found
   pub was_found : (j : RecordedInference) → RecordedIn needed j → RecordedIn found j
   was_found j r = (r.0, are.of_found r.0 r.1, r.2)
 
   -- what was found is said by what is recorded now
-  pub said_now : (to : Target) (maker : Option ℕ) (known : Fact → Type 0) → HasInference (RecordedIn found) to maker known → HasInference (RecordedIn (recorded ++ needed)) to maker known
+  pub said_now : (to : Target) (maker : Option ℕ) (known : Fact → Type 0) → HasInference (RecordedIn found) to maker known → HasInference (RecordedIn all) to maker known
   said_now to maker known has =
       let i : Inferred = has.1.0 in
       let same : inference i ≡ has.0 = has.1.2 in
       let said : IsSaid recorded needed i = are.said i has.1.1 in
       let j : Inferred = said.0 in
-      let there : IsIn (recorded ++ needed) j = elim said.1 [ inl o ↦ IsIn-left recorded needed j o | inr n ↦ IsIn-right recorded needed j n ] in (
+      let there : IsIn all j = (also j).1 said.1 in (
         inference j,
         (j, there, refl),
         said.2.to ∙ (ap (λ (r : RecordedInference). r.to) same ∙ has.2),
@@ -116,9 +116,9 @@ module _ (recorded found needed : List Inferred) (are : AreNeeded recorded found
         λ f at. has.4 f (let P : RecordedInference → Type 0 = λ r. IsIn r.from f in subst P same (said.2.from f at)),
       )
 
-  pub needed_are : (S : Stock ℕ) (met : Fact → Type 0) (scope : Scope) → ((j : RecordedInference) → RecordedIn recorded j → Leads S j.from j.maker j.to) → AreRecorded S met scope (RecordedIn found) → AreRecorded S met scope (RecordedIn (recorded ++ needed))
+  pub needed_are : (S : Stock ℕ) (met : Fact → Type 0) (scope : Scope) → ((j : RecordedInference) → RecordedIn recorded j → Leads S j.from j.maker j.to) → AreRecorded S met scope (RecordedIn found) → AreRecorded S met scope (RecordedIn all)
   needed_are S met scope before new = record {
-    leads = λ j r. elim (IsIn-append recorded needed r.0 r.1) [ inl o ↦ before j (r.0, o, r.2) | inr n ↦ new.leads j (was_found j (r.0, n, r.2)) ];
+    leads = λ j r. elim ((also r.0).0 r.1) [ inl o ↦ before j (r.0, o, r.2) | inr n ↦ new.leads j (was_found j (r.0, n, r.2)) ];
     forced = λ k part instance known p v c named of_part meant held at forces. said_now _ _ _ (new.forced k part instance known p v c named of_part meant held at forces);
     refuted = λ k part instance known named of_part meant held refutes. said_now _ _ _ (new.refuted k part instance known named of_part meant held refutes);
     two_words = λ c v w differ meant low high. said_now _ _ _ (new.two_words c v w differ meant low high);

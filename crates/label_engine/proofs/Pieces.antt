@@ -1,5 +1,5 @@
 -- The steps of the program, joined.
-use Rattle.std.proofs.Common.{◌≡◌, ℕ, Bool, ◌^◌, ◌<◌, inl, inr, refl, sym, ap, subst, ◌∙◌, ◌↔◌, List, [], ◌∷◌, ◌++◌, length, Option, Some, None, Result, Ok, Err, IfOk, take, drop, get_or, suc, drop-cons, append_assoc, append-nil, OnOk, OnErr, arith}
+use Rattle.std.proofs.Common.{◌≡◌, ℕ, Bool, ◌^◌, ◌<◌, inl, inr, refl, sym, ap, subst, ◌∙◌, ◌↔◌, List, [], ◌∷◌, ◌++◌, length, Option, Some, None, Result, Ok, Err, IfOk, take, drop, get_or, suc, drop-cons, OnOk, OnErr, arith}
 use Rattle.environment_sets.proofs.Membership.{AreDistinct-push, IsIn-append, IsIn-left, IsIn-right}
 use Rattle.std.specs.List.{slice_get, remove}
 use Rattle.std.proofs.lemmas.List.{take-append-drop, map-append}
@@ -22,7 +22,7 @@ use Rattle.label_engine.specs.declared.update.Arrival.{Arrival}
 use Rattle.label_engine.specs.declared.update.Pending.{Pending}
 use Rattle.label_engine.specs.declared.update.Update.{Update}
 use Rattle.label_engine.specs.Nodes.{facts_of, label_in, KeptIn, reaches}
-use Rattle.label_engine.specs.Update.{Survives, other_fact, DueIn, DueBy, IsAtHand, HasCome, HasComeBy, Propagates, Holds, DueAlso, HasUnions, HasUnionsWith, HasMet, AreKeptAlike, IsPutThere, IsReady, IsAtRest, CarriesOn, AgreesWith}
+use Rattle.label_engine.specs.Update.{AllLead, Survives, other_fact, DueIn, DueBy, IsAtHand, HasCome, HasComeBy, Propagates, Holds, DueAlso, HasUnions, HasUnionsWith, HasMet, AreKeptAlike, IsPutThere, IsReady, IsAtRest, CarriesOn, AgreesWith}
 use Rattle.assumption_slots.specs.Slots.{stock}
 use Rattle.inference_search.specs.Inferences.{RecordedIn}
 use Rattle.label_engine.proofs.Families.{same_family, same_test, label_in-met}
@@ -53,11 +53,11 @@ module _ {A E : Type 0} (r : Result A E) (old new : Nodes) (f : Fact) (ok : OnOk
         | Err e ↦ λ _ o. ap (λ l. label_in l g) o
       ] ok err
 
-  pub facts_met : (newly : List Fact) × (facts_of new.list.items ≡ facts_of old.list.items ++ newly)
-  facts_met =
-      elim r as (λ (x : Result A E). OnOk x (new.list.items ≡ old.list.items ++ record { fact = f; label = [] } ∷ []) → OnErr x (new.list.items ≡ old.list.items) → (newly : List Fact) × (facts_of new.list.items ≡ facts_of old.list.items ++ newly)) [
-        | Ok x ↦ λ o _. (f ∷ [], ap facts_of o ∙ map-append (λ (n : Node). n.fact) old.list.items (record { fact = f; label = [] } ∷ []))
-        | Err e ↦ λ _ o. ([], ap facts_of o ∙ sym (append-nil (facts_of old.list.items)))
+  pub facts_met : (g : Fact) → IsIn (facts_of old.list.items) g → IsIn (facts_of new.list.items) g
+  facts_met g there =
+      elim r as (λ (x : Result A E). OnOk x (new.list.items ≡ old.list.items ++ record { fact = f; label = [] } ∷ []) → OnErr x (new.list.items ≡ old.list.items) → IsIn (facts_of new.list.items) g) [
+        | Ok x ↦ λ o _. subst (λ (l : List Fact). IsIn l g) (sym (ap facts_of o ∙ map-append (λ (n : Node). n.fact) old.list.items (record { fact = f; label = [] } ∷ []))) (IsIn-left (facts_of old.list.items) (f ∷ []) g there)
+        | Err e ↦ λ _ o. subst (λ (l : List Fact). IsIn l g) (sym (ap facts_of o)) there
       ] ok err
 
   -- no fact comes to have two nodes, where it had none
@@ -71,14 +71,13 @@ module _ {A E : Type 0} (r : Result A E) (old new : Nodes) (f : Fact) (ok : OnOk
 pub agrees_same : (old new : Update) → AreKeptAlike old new → AgreesWith old new
 agrees_same old new s t E _ = let P : Family → Type 0 = λ K. K t E ↔ KeptIn new.nodes t E in subst P (same_family old.nodes new.nodes s.labels s.nogoods) ((λ (k : KeptIn new.nodes t E). k), (λ (k : KeptIn new.nodes t E). k))
 
-pub survives_same : (w : Update) → Survives w w
-survives_same w = record {
+pub survives_same : (slots : List (Option Assumption)) (w : Update) → Survives slots w w
+survives_same slots w = record {
   agrees = λ t E _. ((λ (k : KeptIn w.nodes t E). k), (λ (k : KeptIn w.nodes t E). k));
   same_slot = refl;
-  added = [];
-  recorded = sym (append-nil w.recorded);
-  newly = [];
-  met = sym (append-nil (facts_of w.nodes.list.items));
+  stay = λ i there from. there;
+  lead = λ all. all;
+  met = λ f there. there;
   once = λ (d : AreDistinct (facts_of w.nodes.list.items)). d;
 }
 
@@ -89,29 +88,24 @@ agree_trans slot a b c x y t E out = ((λ (k : a t E). (y t E out).0 ((x t E out
 pub agrees_on : (a b c : Update) → AgreesWith a b → b.slot ≡ a.slot → AgreesWith b c → AgreesWith a c
 agrees_on a b c first same then = agree_trans a.slot (KeptIn a.nodes) (KeptIn b.nodes) (KeptIn c.nodes) first (let P : ℕ → Type 0 = λ s. AgreeWithout s (KeptIn b.nodes) (KeptIn c.nodes) in subst P same then)
 
-pub survives_on :
-    (a b c : Update) → Survives a b → AgreesWith b c → c.slot ≡ b.slot → (added : List Inferred) → c.recorded ≡ b.recorded ++ added
-    → (newly : List Fact) → facts_of c.nodes.list.items ≡ facts_of b.nodes.list.items ++ newly
-    → (AreDistinct (facts_of b.nodes.list.items) → AreDistinct (facts_of c.nodes.list.items)) → Survives a c
-survives_on a b c first agrees slot added recorded newly met once = record {
-  agrees = agrees_on a b c first.agrees first.same_slot agrees;
-  same_slot = slot ∙ first.same_slot;
-  added = first.added ++ added;
-  recorded = recorded ∙ (ap (λ l. l ++ added) first.recorded ∙ append_assoc a.recorded first.added added);
-  newly = first.newly ++ newly;
-  met = met ∙ (ap (λ l. l ++ newly) first.met ∙ append_assoc (facts_of a.nodes.list.items) first.newly newly);
-  once = λ (d : AreDistinct (facts_of a.nodes.list.items)). once (first.once d);
+pub survives_on : (slots : List (Option Assumption)) (a b c : Update) → Survives slots a b → Survives slots b c → Survives slots a c
+survives_on slots a b c first then = record {
+  agrees = agrees_on a b c first.agrees first.same_slot then.agrees;
+  same_slot = then.same_slot ∙ first.same_slot;
+  stay = λ i there from. then.stay i (first.stay i there from) (λ f uses. first.met f (from f uses));
+  lead = λ all. then.lead (first.lead all);
+  met = λ f there. then.met f (first.met f there);
+  once = λ (d : AreDistinct (facts_of a.nodes.list.items)). then.once (first.once d);
 }
 
 -- a change of labels alone
-pub survives_then : (a b c : Update) → Survives a b → AgreesWith b c → c.slot ≡ b.slot → c.recorded ≡ b.recorded → facts_of c.nodes.list.items ≡ facts_of b.nodes.list.items → Survives a c
-survives_then a b c first agrees slot recorded met = record {
+pub survives_then : (slots : List (Option Assumption)) (a b c : Update) → Survives slots a b → AgreesWith b c → c.slot ≡ b.slot → c.recorded ≡ b.recorded → facts_of c.nodes.list.items ≡ facts_of b.nodes.list.items → Survives slots a c
+survives_then slots a b c first agrees slot recorded met = record {
   agrees = agrees_on a b c first.agrees first.same_slot agrees;
   same_slot = slot ∙ first.same_slot;
-  added = first.added;
-  recorded = recorded ∙ first.recorded;
-  newly = first.newly;
-  met = met ∙ first.met;
+  stay = λ i there from. subst (λ (l : List Inferred). IsIn l i) (sym recorded) (first.stay i there from);
+  lead = λ all. subst (AllLead slots) (sym recorded) (first.lead all);
+  met = λ f there. subst (λ (l : List Fact). IsIn l f) (sym met) (first.met f there);
   once = λ (d : AreDistinct (facts_of a.nodes.list.items)). subst AreDistinct (sym met) (first.once d);
 }
 
@@ -146,7 +140,7 @@ module _ (slots : List (Option Assumption)) where
           let P : Family → Type 0 = λ K. IsPropagating (stock slots) new.slot (IsIn (facts_of new.nodes.list.items)) K (RecordedIn new.recorded) (DueIn (due ∷ new.due.items)) (IsAtHand new.work.items) (HasCome new.agenda) in
           let Q : Family → Type 0 = λ K. AreSourced (stock slots) K (DueBy (due ∷ new.due.items)) (IsAtHand new.work.items) (HasCome new.agenda) (HasComeBy new.agenda) in
           record {
-            propagating = subst P (sym (same_family old.nodes new.nodes same.labels same.nogoods)) (rw (e.slot, e.met, e.recorded, e.due, e.work, e.agenda) (holds_met slots old.slot old.nodes old.recorded due old.due.items old.work.items old.agenda was f unmet e.found e.needed e.are_found e.are_needed));
+            propagating = subst P (sym (same_family old.nodes new.nodes same.labels same.nogoods)) (rw (e.slot, e.met, e.due, e.work, e.agenda) (holds_met slots old.slot old.nodes old.recorded due old.due.items old.work.items old.agenda was f unmet e.recorded.found e.recorded.needed new.recorded e.recorded.are_found e.recorded.are_needed e.recorded.recorded));
             sourced = subst Q (sym (same_family old.nodes new.nodes same.labels same.nogoods)) (rw (e.due, e.work, e.agenda) was.sourced);
           };
       were_met = λ g same_target. rw e.met (let both : Some f ≡ Some g = sym at ∙ same_target in let gf : f ≡ g = cc in subst (IsIn (facts_of old.nodes.list.items ++ f ∷ [])) gf (IsIn-right (facts_of old.nodes.list.items) (f ∷ []) f (inl refl)));

@@ -1,5 +1,4 @@
 pub mod Nodes
-pub mod Records
 pub mod Sources
 pub mod Update
 pub mod Engine

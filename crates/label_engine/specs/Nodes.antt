@@ -1,5 +1,5 @@
 -- What is kept: the facts that were met, each with its label, and the nogoods.
-use Rattle.std.specs.Prelude.{◌≡◌, ℕ, ◌<◌, Bool, true, false, ◌==◌, ◌&&◌, ◌||◌, Option, Some, None, List, [], ◌∷◌, map, filter, take, drop, slice_get}
+use Rattle.std.specs.Prelude.{◌≡◌, ℕ, ◌<◌, Bool, true, false, ◌==◌, ◌&&◌, ◌||◌, Option, Some, None, List, [], ◌∷◌, map, take, drop, slice_get}
 use Rattle.std.specs.List.{list_any, find}
 use Rattle.circuit_model.specs.declared.model.Fact.{Fact}
 use Rattle.circuit_model.specs.Present.{is_cell}
@@ -58,12 +58,6 @@ has_any (e ∷ es) = true
 -- the node's label has an environment
 abbrev pub is_supported : Node → Bool
 is_supported n = has_any n.label
-
--- from each label exactly the environments of which P holds are dropped, and then exactly the nodes with no environment
-pub record AreSupported (P : Set ℕ → Type 0) (old new : List Node) : Type 0 where
-  pub dropped : List Node
-  pub labels : EachDrops P old dropped
-  pub supported : new ≡ filter is_supported dropped
 
 -- one of the environments is a subset
 abbrev pub covers : List Env → Set ℕ → Bool

@@ -1,31 +1,32 @@
 -- What holds while labels are brought up to date with one assumption more.
-use Rattle.std.specs.Prelude.{◌≡◌, ◌⊎◌, ℕ, ◌+◌, ◌*◌, ◌^◌, Bool, true, false, ◌||◌, ◌&&◌, not, IsTrue, ◌==◌, cond, Option, Some, None, List, [], ◌∷◌, ◌++◌, length, map, filter, ◌≤◌, ◌↔◌}
+use Rattle.std.specs.Prelude.{◌≡◌, ◌⊎◌, ℕ, ◌+◌, ◌*◌, ◌^◌, ◌<◌, Bool, true, false, ◌||◌, ◌&&◌, not, IsTrue, IsFalse, IfSome, ◌==◌, cond, Option, Some, None, List, [], ◌∷◌, ◌++◌, length, map, filter, ◌≤◌, ◌↔◌}
 use Rattle.std.specs.Option.{option_or, is_none}
-use Rattle.std.specs.List.{list_any}
 use Rattle.circuit_model.specs.declared.model.Fact.{Fact}
 use Rattle.circuit_model.specs.declared.model.Assumption.{Assumption}
 use Rattle.circuit_model.specs.Stock.{Stock}
 use Rattle.circuit_model.specs.Settled.{IsSettled}
 use Rattle.environment_sets.specs.declared.environment.Env.{Env}
+use Rattle.environment_sets.specs.declared.environment.TheConstants.{SLOTS}
 use Rattle.environment_sets.specs.Sets.{Set, ◌⊆◌, ◌∪◌, no_elements, only}
 use Rattle.environment_sets.specs.Members.{members, HasMember}
 use Rattle.environment_sets.specs.Lists.{IsIn, AreDistinct}
 use Rattle.environment_sets.specs.Families.{Drops}
 use Rattle.antichains.specs.Completed.{Complete, Lacking}
-use Rattle.propagation.specs.Propagating.{Target, Family, RecordedInference, All, AreRecorded, IsLone, AreSourced, IsPropagating, IsReached, AgreeWithout, IsPut}
+use Rattle.propagation.specs.Propagating.{Target, Family, RecordedInference, Leads, All, AreRecorded, IsLone, AreSourced, IsPropagating, IsReached, AgreeWithout, IsPut}
 use Rattle.propagation.specs.Uncovered.{uncovered}
 use Rattle.label_engine.specs.declared.node.Node.{Node}
 use Rattle.label_engine.specs.declared.node.Nodes.{Nodes}
 use Rattle.label_engine.specs.declared.node.Insertion.{Insertion}
 use Rattle.inference_search.specs.declared.inferred.Inferred.{Inferred}
 use Rattle.assumption_slots.specs.Slots.{stock}
-use Rattle.inference_search.specs.Inferences.{facts, inference, RecordedIn}
+use Rattle.inference_search.specs.Inferences.{facts, inference, RecordedIn, IsOnce}
+use Rattle.recorded_inferences.specs.Recorded.{GoesFrom, AreExactly, AreWithout}
 use Rattle.inference_search.specs.Found.{AreFound}
 use Rattle.label_engine.specs.declared.update.Arrival.{Arrival}
 use Rattle.label_engine.specs.declared.update.Pending.{Pending}
 use Rattle.label_engine.specs.declared.update.Completing.{Completing}
 use Rattle.label_engine.specs.declared.update.Update.{Update}
-use Rattle.label_engine.specs.Nodes.{is_same, facts_of, label_in, KeptIn, AreSupported, reaches}
+use Rattle.label_engine.specs.Nodes.{is_same, facts_of, label_in, KeptIn, EachDrops, is_supported, reaches}
 
 -- the two are the same target
 abbrev pub is_same_target : Target → Target → Bool
@@ -63,6 +64,20 @@ pub record SaysAsMuch (j i : Inferred) : Type 0 where
 -- one that is recorded, or is to be recorded, says as much
 abbrev pub IsSaid : List Inferred → List Inferred → Inferred → Type 0
 IsSaid recorded needed i = (j : Inferred) × (IsIn recorded j ⊎ IsIn needed j) × SaysAsMuch j i
+
+-- the facts that the inference goes from differ, and what makes it is a slot
+pub record CanBeRecorded (i : Inferred) : Type 0 where
+  pub once : IsOnce i
+  pub maker : IfSome i.maker (λ slot. slot < SLOTS)
+
+-- more are recorded
+abbrev pub AreAlso : List Inferred → List Inferred → List Inferred → Type 0
+AreAlso more old new = AreExactly (λ i. IsIn old i ⊎ IsIn more i) new
+
+-- some more are recorded, and none less
+pub record HasSomeOf (more old new : List Inferred) : Type 0 where
+  pub stay : (i : Inferred) → IsIn old i → IsIn new i
+  pub only : (i : Inferred) → IsIn new i → IsIn old i ⊎ IsIn more i
 
 -- of what was found, what is to be recorded: for each that was found, one that is recorded, or is to be, says as much
 pub record AreNeeded (recorded found needed : List Inferred) : Type 0 where
@@ -139,17 +154,13 @@ is_passed (Some slot) i = is_made_at slot i.maker
 abbrev pub is_next : Option ℕ → Bool → Inferred → Bool
 is_next passed clash i = ends_in clash i.to && not (is_passed passed i)
 
--- the inference goes from the fact to a clash, or to a value, and is not passed over
-abbrev pub goes_to : Option ℕ → Bool → Fact → Inferred → Bool
-goes_to passed clash f i = is_next passed clash i && goes_from f i
-
--- each inference from the fact to a clash, or to a value, that is not passed over, with the environment
+-- each of the inferences from the fact to a clash, or to a value, that is not passed over, with the environment
 abbrev pub items_to : Option ℕ → Bool → Fact → Env → List Inferred → List Pending
-items_to passed clash f e recorded = map (item_at f e) (filter (goes_to passed clash f) recorded)
+items_to passed clash f e uses = map (item_at f e) (filter (is_next passed clash) uses)
 
--- each inference that goes from the fact and is not passed over, with the environment: those to a clash last
+-- each of the inferences from the fact that is not passed over, with the environment: those to a clash last
 abbrev pub items_at : Option ℕ → Fact → Env → List Inferred → List Pending
-items_at passed f e recorded = items_to passed false f e recorded ++ items_to passed true f e recorded
+items_at passed f e uses = items_to passed false f e uses ++ items_to passed true f e uses
 
 -- what is passed over where an environment with the source is brought in: the source, where its component is one instance
 abbrev pub IsPassed : List (Option Assumption) → Option ℕ → ℕ → Type 0
@@ -289,15 +300,22 @@ pub record IsReady (slots : List (Option Assumption)) (due : Insertion) (old new
   pub agenda_same : new.agenda ≡ old.agenda
   pub same_slot : new.slot ≡ old.slot
 
--- what holds at every exit: what lacks the slot is kept as before, what was recorded and met since stands behind, and no fact
--- comes to have two nodes
-pub record Survives (old new : Update) : Type 0 where
+-- each recorded inference is one step of the closure
+abbrev pub AllLead : List (Option Assumption) → List Inferred → Type 0
+AllLead slots recorded = (j : RecordedInference) → RecordedIn recorded j → Leads (stock slots) j.from j.maker j.to
+
+-- each recorded inference from facts that have nodes stays
+abbrev pub MetStay : List Node → List Inferred → List Inferred → Type 0
+MetStay nodes old new = (i : Inferred) → IsIn old i → ((f : Fact) → GoesFrom f i → IsIn (facts_of nodes) f) → IsIn new i
+
+-- what holds at every exit: what lacks the slot is kept as before, what is recorded are inferences, those from facts that had nodes
+-- stay, facts that had nodes have them, and no fact comes to have two nodes
+pub record Survives (slots : List (Option Assumption)) (old new : Update) : Type 0 where
   pub agrees : AgreesWith old new
   pub same_slot : new.slot ≡ old.slot
-  pub added : List Inferred
-  pub recorded : new.recorded ≡ old.recorded ++ added
-  pub newly : List Fact
-  pub met : facts_of new.nodes.list.items ≡ facts_of old.nodes.list.items ++ newly
+  pub stay : MetStay old.nodes.list.items old.recorded new.recorded
+  pub lead : AllLead slots old.recorded → AllLead slots new.recorded
+  pub met : (f : Fact) → IsIn (facts_of old.nodes.list.items) f → IsIn (facts_of new.nodes.list.items) f
   pub once : AreDistinct (facts_of old.nodes.list.items) → AreDistinct (facts_of new.nodes.list.items)
 
 -- the environment is put in at its target; to a fact it came
@@ -315,13 +333,24 @@ pub record AreKeptAlike (old new : Update) : Type 0 where
   pub labels : (f : Fact) → label_in new.nodes.list.items f ≡ label_in old.nodes.list.items f
   pub nogoods : new.nodes.nogoods ≡ old.nodes.nogoods
 
+-- of the inferences from facts that were met that use the fact, those that are needed are recorded
+pub record HasRecorded (slots : List (Option Assumption)) (met : List Fact) (f : Fact) (old new : List Inferred) : Type 0 where
+  pub found : List Inferred
+  pub are_found : AreFound slots met f found
+  pub needed : List Inferred
+  pub are_needed : AreNeeded old found needed
+  pub recorded : AreAlso needed old new
+
+-- what was recorded stays, and what else is recorded are inferences that use the fact
+pub record HasSomeUses (slots : List (Option Assumption)) (f : Fact) (old new : List Inferred) : Type 0 where
+  pub more : List Inferred
+  pub some : HasSomeOf more old new
+  pub lead : AllLead slots more
+  pub uses : (i : Inferred) → IsIn more i → GoesFrom f i
+
 -- the fact was met: of the inferences that use it, those that are needed are recorded, and all else is as before
 pub record HasMet (slots : List (Option Assumption)) (f : Fact) (old new : Update) : Type 0 where
-  pub found : List Inferred
-  pub are_found : AreFound slots (facts_of old.nodes.list.items) f found
-  pub needed : List Inferred
-  pub are_needed : AreNeeded old.recorded found needed
-  pub recorded : new.recorded ≡ old.recorded ++ needed
+  pub recorded : HasRecorded slots (facts_of old.nodes.list.items) f old.recorded new.recorded
   pub met : facts_of new.nodes.list.items ≡ facts_of old.nodes.list.items ++ f ∷ []
   pub due : new.due.items ≡ old.due.items
   pub work : new.work.items ≡ old.work.items
@@ -338,21 +367,23 @@ pub record IsTakenBack (slots : List (Option Assumption)) (old new : Update) : T
   pub same : (t : Target) (E : Set ℕ) → KeptIn old.nodes t E ↔ KeptIn new.nodes t E
   pub same_slot : new.slot ≡ old.slot
 
--- there is no fact, or it has a node
-abbrev pub is_met_or_none : List Node → Option Fact → Bool
-is_met_or_none nodes None = true
-is_met_or_none nodes (Some f) = list_any (λ n. is_same n.fact f) nodes
+-- the inference goes from the fact of a node with no environment
+abbrev pub GoesFromUnsupported : List Node → Inferred → Type 0
+GoesFromUnsupported nodes i = (n : Node) × IsIn nodes n × IsFalse (is_supported n) × GoesFrom n.fact i
 
--- the inference is not made at the slot, and each fact that it goes from has a node
-abbrev pub is_still_met : List Node → ℕ → Inferred → Bool
-is_still_met nodes slot i = not (is_made_at slot i.maker) && (is_met_or_none nodes i.first && is_met_or_none nodes i.second)
+-- the inference is made at the slot, or goes from the fact of a node with no environment
+abbrev pub IsForgotten : ℕ → List Node → Inferred → Type 0
+IsForgotten slot nodes i = (i.maker ≡ Some slot) ⊎ GoesFromUnsupported nodes i
 
--- the environments that have the slot are dropped, then the nodes with none, and then the inferences that the slot made or that
--- go from a fact without a node
+-- the environments that have the slot are dropped, then the inferences that the slot made or that go from the fact of a node with
+-- none, and then these nodes
 pub record HasForgotten (slot : ℕ) (old new : Update) : Type 0 where
-  pub labels : AreSupported (λ F. IsTrue (F slot)) old.nodes.list.items new.nodes.list.items
+  pub dropped : List Node
+  pub labels : EachDrops (λ F. IsTrue (F slot)) old.nodes.list.items dropped
+  pub supported : new.nodes.list.items ≡ filter is_supported dropped
   pub nogoods : Drops (HasMember old.nodes.nogoods) (HasMember new.nodes.nogoods) (λ F. IsTrue (F slot))
-  pub recorded : new.recorded ≡ filter (is_still_met new.nodes.list.items slot) old.recorded
+  pub recorded : AreWithout (IsForgotten slot dropped) old.recorded new.recorded
   pub due_same : new.due.items ≡ old.due.items
   pub work_same : new.work.items ≡ old.work.items
   pub agenda_same : new.agenda ≡ old.agenda
+  pub slot_same : new.slot ≡ old.slot

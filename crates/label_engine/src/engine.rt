@@ -13,12 +13,12 @@ ghost use Rattle.label_engine.specs.Engine.{label_at, Remembers, Forgets, AreAll
 
 use crate::node::Nodes;
 use crate::nodes::{is_same_fact, no_hints};
-use crate::records::Records;
 use crate::update::Update;
 use assumption_slots::Slots;
 use circuit_model::{Assumption, Fact};
 use nogood_store::Nogoods;
 use propagation_agenda::{Agenda, Picker};
+use recorded_inferences::Records;
 use std::alloc::{AllocError, Global};
 use std::marker::Model;
 use thiserror::Error;
@@ -73,7 +73,6 @@ impl Engine {
         ensures exact { IfOk result (λ e. AreExact (stock e.slots) (label_at e) (HasMember e.nogoods)) }
     {
         let slots = Slots::open(alloc)?;
-        let recorded = Records::open(alloc)?;
         let hints = no_hints(alloc)?;
         let nodes = Nodes {
             list: Vec::new(alloc),
@@ -83,7 +82,7 @@ impl Engine {
         let update = Update {
             slot: 0,
             nodes,
-            recorded,
+            recorded: Records::new(alloc),
             due: Vec::new(alloc),
             work: Vec::new(alloc),
             agenda: Agenda::new(alloc),

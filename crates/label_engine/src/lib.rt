@@ -2,12 +2,10 @@
 #![tactic(auto)]
 
 mod engine;
-mod keys;
 mod node;
 mod nodes;
 mod questions;
 mod recording;
-mod records;
 mod sources;
 mod update;
 

@@ -1,6 +1,6 @@
 // What is kept: the facts that were met, each with its label, and the nogoods.
 
-ghost use Rattle.std.specs.Prelude.{◌≡◌, ◌<◌, ◌↔◌, ◌++◌, ◌∷◌, [], IsTrue, IfOk, OnOk, OnErr, MatchOption, Some, None, length, position, slice_get, take, filter};
+ghost use Rattle.std.specs.Prelude.{◌≡◌, ◌<◌, ◌↔◌, ◌++◌, ◌∷◌, [], IsTrue, IfOk, OnOk, OnErr, MatchOption, Some, None, length, position, slice_get, filter};
 ghost use Rattle.std.specs.List.{list_any};
 ghost use Rattle.environment_sets.specs.Sets.{◌⊆◌};
 ghost use Rattle.environment_sets.specs.Members.{members, HasMember};
@@ -8,7 +8,7 @@ ghost use Rattle.environment_sets.specs.Families.{Drops, IsCovered};
 ghost use Rattle.propagation.specs.Propagating.{IsReached, IsPut};
 ghost use Rattle.label_engine.specs.declared.node.Node.{Node};
 ghost use Rattle.label_engine.specs.declared.nodes.TheConstants.{HINTS};
-ghost use Rattle.label_engine.specs.Nodes.{is_same, facts_of, AreOnce, label_in, KeptIn, IsMet, EachDrops, is_supported, AreSupported};
+ghost use Rattle.label_engine.specs.Nodes.{is_same, facts_of, AreOnce, label_in, KeptIn, IsMet, EachDrops, is_supported};
 
 use crate::node::{Insertion, Node, Nodes};
 use circuit_model::Fact;
@@ -89,7 +89,7 @@ fn drop_over(nodes: &mut [Node], nogood: &Env)
 }
 
 // Drops the environments that have the slot.
-fn drop_slot(nodes: &mut [Node], slot: u16)
+fn drop_slot_in(nodes: &mut [Node], slot: u16)
     requires { slot < SLOTS }
     ensures { EachDrops (λ F. IsTrue (F slot)) nodes.old nodes.new }
 {
@@ -99,8 +99,8 @@ fn drop_slot(nodes: &mut [Node], slot: u16)
     }
 }
 
-// Whether the label has an environment.
-fn has_support(node: &Node) -> bool
+/// Whether the label has an environment.
+pub fn has_support(node: &Node) -> bool
     ensures { result ≡ is_supported node.now }
 {
     !node.label.members().is_empty()
@@ -226,34 +226,22 @@ impl Nodes {
         }
     }
 
-    /// The facts that were met first stay, with the environments that lack the slot, and so do the nogoods that lack it.
-    pub fn take_back(&mut self, slot: u16, met: usize)
+    /// The environments that have the slot go, and so do the nogoods that have it.
+    pub fn drop_slot(&mut self, slot: u16)
         requires { slot < SLOTS }
-        ensures labels { EachDrops (λ F. IsTrue (F slot)) (take met self.old.list.items) self.new.list.items }
+        ensures labels { EachDrops (λ F. IsTrue (F slot)) self.old.list.items self.new.list.items }
         ensures nogoods { Drops (HasMember self.old.nogoods) (HasMember self.new.nogoods) (λ F. IsTrue (F slot)) }
     {
-        self.list.truncate(met);
-        drop_slot(&mut self.list, slot);
+        drop_slot_in(&mut self.list, slot);
         self.nogoods.drop_slot(slot);
     }
 
-    // Facts that have no environment are met no more.
-    fn drop_unsupported(&mut self)
+    /// Facts that have no environment are met no more.
+    pub fn drop_unsupported(&mut self)
         ensures nodes { self.new.list.items ≡ filter is_supported self.old.list.items }
         ensures nogoods { self.new.nogoods ≡ self.old.nogoods }
     {
         self.list.retain(|node| has_support(node));
         note_each(&mut self.hints, &self.list);
-    }
-
-    /// The environments that have the slot go, and then the facts that have no environment are met no more.
-    pub fn forget(&mut self, slot: u16)
-        requires { slot < SLOTS }
-        ensures labels { AreSupported (λ F. IsTrue (F slot)) self.old.list.items self.new.list.items }
-        ensures nogoods { Drops (HasMember self.old.nogoods) (HasMember self.new.nogoods) (λ F. IsTrue (F slot)) }
-    {
-        let met = self.list.len();
-        self.take_back(slot, met);
-        self.drop_unsupported();
     }
 }

@@ -3,12 +3,14 @@
 
 ghost use Rattle.std.specs.Prelude.{◌≡◌, ℕ, ◌++◌, [], IfOk, IsTrue, Some, take};
 ghost use Rattle.std.specs.List.{list_any};
-ghost use Rattle.label_engine.specs.Update.{is_same_target, is_same_maker, goes_from, goes_from_any, says_as_much, AreNeeded, IsSaid, IsNeededOrSaid};
+ghost use Rattle.environment_sets.specs.Lists.{IsIn};
+ghost use Rattle.inference_search.specs.declared.inferred.Inferred.{Inferred};
+ghost use Rattle.label_engine.specs.Update.{is_same_target, is_same_maker, goes_from, goes_from_any, says_as_much, CanBeRecorded, AreAlso, HasSomeOf, AreNeeded, IsSaid, IsNeededOrSaid};
 
 use crate::nodes::is_same_fact;
-use crate::records::Records;
 use circuit_model::Fact;
 use inference_search::Inferred;
+use recorded_inferences::Records;
 use std::alloc::{AllocError, Global};
 
 /// Whether the two are the same target.
@@ -68,33 +70,48 @@ fn is_said(by: &[Inferred], inferred: &Inferred) -> bool
     by.iter().any(|other| says_as_much(other, inferred))
 }
 
-// Whether one that is recorded near the fact, if there is one, says as much.
-fn is_said_near(recorded: &Records, fact: &Option<Fact>, inferred: &Inferred) -> bool
-    ensures { IsTrue result → IsSaid recorded.now [] inferred.now }
+// Whether one that is recorded and goes from the fact, if there is one, says as much. The list becomes those from the fact.
+fn is_said_from(
+    uses: &mut Vec<Inferred>,
+    recorded: &Records,
+    fact: &Option<Fact>,
+    inferred: &Inferred,
+) -> Result<bool, AllocError>
+    ensures { IfOk result (λ is. IsTrue is → IsSaid recorded.now [] inferred.now) }
 {
-    match fact {
-        Some(fact) => is_said(recorded.near(fact), inferred),
-        None => false,
-    }
+    let Some(fact) = fact else {
+        return Ok(false);
+    };
+    recorded.uses(uses, fact)?;
+    Ok(is_said(uses, inferred))
 }
 
 // Whether one that is recorded, from some of its facts, says as much.
-fn is_recorded(recorded: &Records, inferred: &Inferred) -> bool
-    ensures { IsTrue result → IsSaid recorded.now [] inferred.now }
+fn is_recorded(
+    uses: &mut Vec<Inferred>,
+    recorded: &Records,
+    inferred: &Inferred,
+) -> Result<bool, AllocError>
+    ensures { IfOk result (λ is. IsTrue is → IsSaid recorded.now [] inferred.now) }
 {
-    is_said_near(recorded, &inferred.first, inferred)
-        || is_said_near(recorded, &inferred.second, inferred)
+    let said = is_said_from(uses, recorded, &inferred.first, inferred)?;
+    if said {
+        return Ok(true);
+    }
+    is_said_from(uses, recorded, &inferred.second, inferred)
 }
 
 // The inference is needed too, where none says as much.
 fn add_needed(
     needed: &mut Vec<Inferred>,
+    uses: &mut Vec<Inferred>,
     recorded: &Records,
     inferred: &Inferred,
 ) -> Result<(), AllocError>
     ensures { IfOk result (λ _. IsNeededOrSaid recorded.now inferred.now needed.old.items needed.new.items) }
 {
-    if is_recorded(recorded, inferred) {
+    let said = is_recorded(uses, recorded, inferred)?;
+    if said {
         return Ok(());
     }
     if is_said(needed, inferred) {
@@ -113,16 +130,18 @@ pub fn needed_of(
     ensures { IfOk result (λ needed. AreNeeded recorded.now found.now needed.items) }
 {
     let mut needed = Vec::new(alloc);
+    let mut uses = Vec::new(alloc);
     for inferred in found {
-        add_needed(&mut needed, recorded, inferred)?;
+        add_needed(&mut needed, &mut uses, recorded, inferred)?;
     }
     Ok(needed)
 }
 
-/// Records what was found. After an error a front of what was found is recorded.
+/// Records what was found. After an error some of what was found is recorded.
 pub fn record_all(recorded: &mut Records, found: &[Inferred]) -> Result<(), AllocError>
-    ensures ok { IfOk result (λ _. recorded.new ≡ recorded.old ++ found.now) }
-    ensures partly { (k : ℕ) × (recorded.new ≡ recorded.old ++ take k found.now) }
+    requires { (i : Inferred) → IsIn found.now i → CanBeRecorded i }
+    ensures ok { IfOk result (λ _. AreAlso found.now recorded.old recorded.new) }
+    ensures some { HasSomeOf found.now recorded.old recorded.new }
 {
     for inferred in found {
         recorded.push(*inferred)?;

@@ -5,20 +5,22 @@ ghost use Rattle.std.specs.Option.{ForSome};
 ghost use Rattle.environment_sets.specs.declared.environment.TheConstants.{SLOTS};
 ghost use Rattle.environment_sets.specs.Members.{members, HasMember};
 ghost use Rattle.environment_sets.specs.Sets.{◌∪◌, Hits};
-ghost use Rattle.environment_sets.specs.Lists.{AreDistinct};
+ghost use Rattle.environment_sets.specs.Lists.{AreDistinct, IsIn};
 ghost use Rattle.environment_sets.specs.Families.{Drops, IsCovered};
 ghost use Rattle.antichains.specs.Completed.{Complete};
 ghost use Rattle.circuit_model.specs.declared.model.Instance.{Instance};
 ghost use Rattle.circuit_model.specs.declared.model.Assumption.TheVariants.{Part, Reading};
 ghost use Rattle.propagation.specs.Uncovered.{Fits, TargetFits};
 ghost use Rattle.propagation.specs.Propagating.{IsReached};
-ghost use Rattle.label_engine.specs.Nodes.{facts_of, KeptIn, IsMet, EachDrops};
-ghost use Rattle.label_engine.specs.Update.{item_at, items_at, items_to, is_next, ends_in, some_fact, goes_from_none, due_with, items_with, items_from, other_fact, made_by, HasUnions, HasUnionsWith, HasMet, AreKeptAlike, IsPutThere, Propagates, DueAlso, IsAtHandAlso, HasComeAlso, CarriesOn, IsReady, BeginsUnions, IsSourceOf, IsUnion, union_of, AreKeptAt, IsAddedOrReached, Survives, before, IsAtRest, IsTakenBack, HasForgotten, IsCompleting, StaysCompleting};
+ghost use Rattle.label_engine.specs.Nodes.{facts_of, KeptIn, IsMet};
+ghost use Rattle.label_engine.specs.Update.{item_at, items_at, items_to, is_next, ends_in, some_fact, goes_from_none, due_with, items_with, items_from, other_fact, made_by, HasUnions, HasUnionsWith, HasRecorded, HasSomeUses, HasMet, AreKeptAlike, IsPutThere, Propagates, DueAlso, IsAtHandAlso, HasComeAlso, CarriesOn, IsReady, BeginsUnions, IsSourceOf, IsUnion, union_of, AreKeptAt, IsAddedOrReached, Survives, before, IsAtRest, IsTakenBack, HasForgotten, GoesFromUnsupported, IsCompleting, StaysCompleting};
+ghost use Rattle.inference_search.specs.declared.inferred.Inferred.{Inferred};
+ghost use Rattle.recorded_inferences.specs.Recorded.{AreWithout, GoesFrom};
 ghost use Rattle.assumption_slots.specs.Slots.{stock};
 
-use crate::node::{Insertion, Nodes};
-use crate::recording::{is_target, needed_of, record_all, uses};
-use crate::records::Records;
+use crate::node::{Insertion, Node, Nodes};
+use crate::nodes::has_support;
+use crate::recording::{is_target, needed_of, record_all};
 use crate::sources::{is_passed, passed_for};
 use assumption_slots::Slots;
 use circuit_model::{Assumption, Fact};
@@ -26,6 +28,7 @@ use environment_sets::Env;
 use inference_search::{Inferred, find_made_by, find_uses};
 use label_algebra::Label;
 use propagation_agenda::{Agenda, Picker};
+use recorded_inferences::Records;
 use std::alloc::{AllocError, Global};
 
 /// An environment that came to the label of a fact, with its source, and waits for the inferences from there.
@@ -88,15 +91,15 @@ fn is_next(inferred: &Inferred, passed: Option<u16>, clash: bool) -> bool
 // passed over.
 fn bring_uses(
     work: &mut Vec<Pending>,
-    recorded: &[Inferred],
+    uses: &[Inferred],
     arrival: &Arrival,
     passed: Option<u16>,
     clash: bool,
 ) -> Result<(), AllocError>
-    ensures { IfOk result (λ _. work.new.items ≡ work.old.items ++ items_to passed clash arrival.now.fact arrival.now.env recorded.now) }
+    ensures { IfOk result (λ _. work.new.items ≡ work.old.items ++ items_to passed clash arrival.now.fact arrival.now.env uses.now) }
 {
-    for inferred in recorded {
-        if is_next(inferred, passed, clash) && uses(inferred, &arrival.fact) {
+    for inferred in uses {
+        if is_next(inferred, passed, clash) {
             work.push(Pending {
                 inferred: *inferred,
                 at: arrival.fact,
@@ -111,15 +114,14 @@ fn bring_uses(
 // and what came last is carried out first: so a clash is found before all that would be in vain after it.
 fn bring_all(
     work: &mut Vec<Pending>,
-    recorded: &Records,
+    uses: &[Inferred],
     arrival: &Arrival,
     passed: Option<u16>,
 ) -> Result<(), AllocError>
-    ensures { IfOk result (λ _. work.new.items ≡ work.old.items ++ items_at passed arrival.now.fact arrival.now.env recorded.now) }
+    ensures { IfOk result (λ _. work.new.items ≡ work.old.items ++ items_at passed arrival.now.fact arrival.now.env uses.now) }
 {
-    let near = recorded.near(&arrival.fact);
-    bring_uses(work, near, arrival, passed, false)?;
-    bring_uses(work, near, arrival, passed, true)
+    bring_uses(work, uses, arrival, passed, false)?;
+    bring_uses(work, uses, arrival, passed, true)
 }
 
 // What the inferences from no fact lead to is due, with the environment.
@@ -441,19 +443,61 @@ fn add_unions(
     }
 }
 
+// The inferences from facts that no environment supports are recorded no more.
+fn drop_unsupported_uses(recorded: &mut Records, nodes: &[Node])
+    ensures { AreWithout (GoesFromUnsupported nodes.now) recorded.old recorded.new }
+{
+    for node in nodes {
+        if !has_support(node) {
+            recorded.drop_uses(&node.fact);
+        }
+    }
+}
+
+// Of the inferences that use the fact, those that are needed are recorded. After an error some of them are.
+fn record_uses(
+    recorded: &mut Records,
+    alloc: Global,
+    slots: &Slots,
+    nodes: &Nodes,
+    fact: &Fact,
+) -> Result<(), AllocError>
+    ensures ok { IfOk result (λ _. HasRecorded slots.now (facts_of nodes.now.list.items) fact.now recorded.old recorded.new) }
+    ensures some { HasSomeUses slots.now fact.now recorded.old recorded.new }
+{
+    slots_fit(slots);
+    let met = nodes.met(alloc)?;
+    let found = find_uses(alloc, slots, &met, *fact)?;
+    let needed = needed_of(alloc, recorded, &found)?;
+    record_all(recorded, &needed)
+}
+
 impl Update {
-    // The fact is met, which it was not: of the inferences that use it, those that are needed are recorded.
+    // The fact is met, which it was not: of the inferences that use it, those that are needed are recorded. After an error
+    // some of them are.
+    fn try_to_meet(&mut self, alloc: Global, slots: &Slots, fact: &Fact) -> Result<(), AllocError>
+        requires { IsMet self.old.nodes.list.items fact.now → ⊥ }
+        ensures ok { IfOk result (λ _. HasMet slots.now fact.now self.old self.new) }
+        ensures survives { Survives slots.now self.old self.new }
+        ensures kept { AreKeptAlike self.old self.new }
+    {
+        record_uses(&mut self.recorded, alloc, slots, &self.nodes, fact)?;
+        self.nodes.meet(alloc, fact)
+    }
+
+    // The same, but after an error none that uses the fact is recorded.
     fn meet(&mut self, alloc: Global, slots: &Slots, fact: &Fact) -> Result<(), AllocError>
         requires { IsMet self.old.nodes.list.items fact.now → ⊥ }
         ensures ok { IfOk result (λ _. HasMet slots.now fact.now self.old self.new) }
-        ensures survives { Survives self.old self.new }
+        ensures err { IfErr result (λ _. (i : Inferred) → IsIn self.new.recorded i → GoesFrom fact.now i → ⊥) }
+        ensures survives { Survives slots.now self.old self.new }
         ensures kept { AreKeptAlike self.old self.new }
     {
-        let met = self.nodes.met(alloc)?;
-        let found = find_uses(alloc, slots, &met, *fact)?;
-        let needed = needed_of(alloc, &self.recorded, &found)?;
-        record_all(&mut self.recorded, &needed)?;
-        self.nodes.meet(alloc, fact)
+        let outcome = self.try_to_meet(alloc, slots, fact);
+        if outcome.is_err() {
+            self.recorded.drop_uses(fact);
+        }
+        outcome
     }
 
     // What is due is put in. At a fact it waits for the inferences from there.
@@ -485,7 +529,7 @@ impl Update {
     ) -> Result<(), AllocError>
         requires { DueAlso slots.now due.now self.old }
         ensures ok { IfOk result (λ _. IsReady slots.now due.now self.old self.new) }
-        ensures survives { Survives self.old self.new }
+        ensures survives { Survives slots.now self.old self.new }
         ensures kept { AreKeptAlike self.old self.new }
     {
         if let Some(fact) = &due.target {
@@ -502,7 +546,7 @@ impl Update {
         ensures ok { IfOk result (λ _. CarriesOn slots.now self.old self.new) }
         ensures due_same { IfOk result (λ _. self.new.due.items ≡ self.old.due.items) }
         ensures work_same { IfOk result (λ _. self.new.work.items ≡ self.old.work.items) }
-        ensures survives { Survives self.old self.new }
+        ensures survives { Survives slots.now self.old self.new }
     {
         if self.nodes.reaches(due) {
             return Ok(());
@@ -520,7 +564,7 @@ impl Update {
         ensures ok { IfOk result (λ _. CarriesOn slots.now self.old self.new) }
         ensures none_due { IfOk result (λ _. self.new.due.items ≡ []) }
         ensures work_same { IfOk result (λ _. self.new.work.items ≡ self.old.work.items) }
-        ensures survives { Survives self.old self.new }
+        ensures survives { Survives slots.now self.old self.new }
     {
         while let Some(due) = self.due.pop() {
             self.put_in(alloc, slots, &due)?;
@@ -541,7 +585,7 @@ impl Update {
         ensures ok { IfOk result (λ _. CarriesOn slots.now self.old self.new) }
         ensures none_due { IfOk result (λ _. self.new.due.items ≡ []) }
         ensures work_same { IfOk result (λ _. self.new.work.items ≡ self.old.work.items) }
-        ensures survives { Survives self.old self.new }
+        ensures survives { Survives slots.now self.old self.new }
     {
         slots_fit(slots);
         add_unions(&mut self.due, &self.nodes, item, completing)?;
@@ -561,7 +605,7 @@ impl Update {
         ensures ok { IfOk result (λ _. CarriesOn slots.now self.old self.new) }
         ensures none_due { IfOk result (λ _. self.new.due.items ≡ []) }
         ensures none_at_hand { IfOk result (λ _. self.new.work.items ≡ []) }
-        ensures survives { Survives self.old self.new }
+        ensures survives { Survives slots.now self.old self.new }
     {
         while let Some(item) = self.work.pop() {
             self.carry_out(alloc, slots, &item, completing)?;
@@ -594,12 +638,14 @@ impl Update {
         ensures ok { IfOk result (λ _. CarriesOn slots.now self.old self.new) }
         ensures none_due { IfOk result (λ _. self.new.due.items ≡ []) }
         ensures none_at_hand { IfOk result (λ _. self.new.work.items ≡ []) }
-        ensures survives { Survives self.old self.new }
+        ensures survives { Survives slots.now self.old self.new }
     {
         slots_fit(slots);
         let passed = passed_for(slots, arrival.source);
         let completing = self.completing(&arrival.env);
-        bring_all(&mut self.work, &self.recorded, arrival, passed)?;
+        let mut uses = Vec::new(alloc);
+        self.recorded.uses(&mut uses, &arrival.fact)?;
+        bring_all(&mut self.work, &uses, arrival, passed)?;
         self.work_off(alloc, slots, &completing)
     }
 
@@ -614,7 +660,7 @@ impl Update {
         requires propagates { Propagates slots.now self.old }
         requires once { AreDistinct (facts_of self.old.nodes.list.items) }
         ensures ok { IfOk result (λ _. IsAtRest (stock slots.now) self.new) }
-        ensures survives { Survives self.old self.new }
+        ensures survives { Survives slots.now self.old self.new }
     {
         self.put_all_in(alloc, slots)?;
         self.work_off(alloc, slots, &none_completing())?;
@@ -632,7 +678,7 @@ impl Update {
         requires reads { stock slots.now self.old.slot ≡ Some (Reading fact.now) }
         requires before { IsAtRest (before slots.now self.old.slot) self.old }
         ensures ok { IfOk result (λ _. Propagates slots.now self.new) }
-        ensures survives { Survives self.old self.new }
+        ensures survives { Survives slots.now self.old self.new }
     {
         let first = Insertion {
             target: Some(*fact),
@@ -650,8 +696,9 @@ impl Update {
         requires works { (part : List Instance) × (stock slots.now self.old.slot ≡ Some (Part part)) }
         requires before { IsAtRest (before slots.now self.old.slot) self.old }
         ensures ok { IfOk result (λ _. Propagates slots.now self.new) }
-        ensures survives { Survives self.old self.new }
+        ensures survives { Survives slots.now self.old self.new }
     {
+        slots_fit(slots);
         let met = self.nodes.met(alloc)?;
         let found = find_made_by(alloc, slots, &met, self.slot)?;
         let needed = needed_of(alloc, &self.recorded, &found)?;
@@ -667,7 +714,7 @@ impl Update {
         requires there { IsSome (stock slots.now self.old.slot) }
         requires before { IsAtRest (before slots.now self.old.slot) self.old }
         ensures ok { IfOk result (λ _. Propagates slots.now self.new) }
-        ensures survives { Survives self.old self.new }
+        ensures survives { Survives slots.now self.old self.new }
     {
         match slots.at(self.slot).unwrap() {
             Assumption::Reading(fact) => self.begin_reading(slots, fact),
@@ -686,28 +733,10 @@ impl Update {
         requires there { IsSome (stock slots.now self.old.slot) }
         requires before { IsAtRest (before slots.now self.old.slot) self.old }
         ensures ok { IfOk result (λ _. IsAtRest (stock slots.now) self.new) }
-        ensures survives { Survives self.old self.new }
+        ensures survives { Survives slots.now self.old self.new }
     {
         self.begin(alloc, slots)?;
         self.settle(alloc, slots, picker)
-    }
-
-    // What has the slot goes, and so do the facts that were met and the inferences that were recorded since.
-    fn take_back(&mut self, met: usize, recorded: usize)
-        requires { self.old.slot < SLOTS }
-        ensures labels { EachDrops (λ F. IsTrue (F self.old.slot)) (take met self.old.nodes.list.items) self.new.nodes.list.items }
-        ensures nogoods { Drops (HasMember self.old.nodes.nogoods) (HasMember self.new.nodes.nogoods) (λ F. IsTrue (F self.old.slot)) }
-        ensures recorded { self.new.recorded ≡ take recorded self.old.recorded }
-        ensures due { self.new.due.items ≡ [] }
-        ensures work { self.new.work.items ≡ [] }
-        ensures agenda { self.new.agenda ≡ [] }
-        ensures slot { self.new.slot ≡ self.old.slot }
-    {
-        self.nodes.take_back(self.slot, met);
-        self.recorded.truncate(recorded);
-        self.due.clear();
-        self.work.clear();
-        self.agenda.clear();
     }
 
     /// The assumption at the slot is worked in. After an error all is as without it.
@@ -723,11 +752,12 @@ impl Update {
         ensures ok { IfOk result (λ _. IsAtRest (stock slots.now) self.new) }
         ensures err { IfErr result (λ _. IsTakenBack slots.now self.old self.new) }
     {
-        let met = self.nodes.list.len();
-        let recorded = self.recorded.len();
         let outcome = self.work_in(alloc, slots, picker);
         if outcome.is_err() {
-            self.take_back(met, recorded);
+            self.due.clear();
+            self.work.clear();
+            self.agenda.clear();
+            self.forget(self.slot);
         }
         outcome
     }
@@ -738,7 +768,9 @@ impl Update {
         requires { slot < SLOTS }
         ensures { HasForgotten slot self.old self.new }
     {
-        self.nodes.forget(slot);
-        self.recorded.keep(&self.nodes, slot);
+        self.nodes.drop_slot(slot);
+        self.recorded.drop_made_by(slot);
+        drop_unsupported_uses(&mut self.recorded, &self.nodes.list);
+        self.nodes.drop_unsupported();
     }
 }

@@ -12,8 +12,8 @@ returns-then-said c =
     let using = c.are_using.ensures.0 c.if-not-are_using.false in
     let agree = c.all_agree.ensures.0 c.if-not-all_agree.false in
     Finds-push _ _ _ _ _ c.in_ok-push.ensures.items
-    (made_refuted s.slot s.instance s.must c.args.known wide _ _ _ _ _ c.facts_at-facts.ensures.facts using agree c.antecedents_of-from.ensures _ _ c.consequences-said.ensures c.if-said.true)
-    (λ alike uses. told_refuted s.slot s.instance s.must c.args.known wide _ _ _ _ _ c.facts_at-facts.ensures.facts using agree c.antecedents_of-from.ensures _ _ c.consequences-said.ensures c.if-said.true _ (IsIn-last _ _ _ refl))
+    (made_refuted s.slot s.instance s.must c.args.known wide _ _ _ _ _ c.facts_at-facts.ensures.facts using agree c.antecedents_of-from.ensures.facts _ _ c.consequences-said.ensures c.antecedents_of-from.ensures.once c.if-said.true)
+    (λ alike uses. told_refuted s.slot s.instance s.must c.args.known wide _ _ _ _ _ c.facts_at-facts.ensures.facts using agree c.antecedents_of-from.ensures.facts _ _ c.consequences-said.ensures c.if-said.true _ (IsIn-last _ _ _ refl))
 
 pub returns : goal.returns
 returns c =
@@ -23,8 +23,8 @@ returns c =
     let agree = c.all_agree.ensures.0 c.if-not-all_agree.false in
     IfOk-weaker _ _ _
     (λ x found. Finds-map _ _ _ _ _ _
-    (made_forced s.slot s.instance s.must c.args.known wide _ _ _ _ _ c.facts_at-facts.ensures.facts using agree c.antecedents_of-from.ensures _ _ c.consequences-said.ensures)
-    (λ there alike uses. told_forced s.slot s.instance s.must c.args.known wide _ _ _ _ _ c.facts_at-facts.ensures.facts using agree c.antecedents_of-from.ensures _ _ c.consequences-said.ensures c.if-said.false _ there)
+    (made_forced s.slot s.instance s.must c.args.known wide _ _ _ _ _ c.facts_at-facts.ensures.facts using agree c.antecedents_of-from.ensures.facts _ _ c.consequences-said.ensures c.antecedents_of-from.ensures.once)
+    (λ there alike uses. told_forced s.slot s.instance s.must c.args.known wide _ _ _ _ _ c.facts_at-facts.ensures.facts using agree c.antecedents_of-from.ensures.facts _ _ c.consequences-said.ensures c.if-said.false _ there)
     found)
     c.add_forced.ensures
 

@@ -5,8 +5,8 @@ use Rattle.label_engine.specs.Update.{SaysAsMuch}
 use Rattle.label_engine.proofs.Needed.{some_says, said_still}
 use Rattle.label_engine.proofs.recording.add_needed.Goals as goal
 
-pub returns-then-is_recorded : goal.returns-then-is_recorded
-returns-then-is_recorded c = inr (refl, said_still _ _ _ (c.is_recorded.ensures c.if-is_recorded.true))
+pub returns-then-said : goal.returns-then-said
+returns-then-said c = inr (refl, said_still c.args.recorded.now c.args.needed.now.items c.args.inferred.now (c.in_ok-said.ensures c.if-said.true))
 
 pub returns-then-is_said : goal.returns-then-is_said
 returns-then-is_said c =

@@ -8,6 +8,6 @@ use Rattle.label_engine.proofs.engine.Engine.open.Goals as goal
 pub returns-clause-exact : goal.returns-clause-exact
 returns-clause-exact c =
     let labels : Nodes = record { list = c.new.result; nogoods = c.new-2.result; hints = c.in_ok-hints.hints; once = once_none c.new.result.items c.new.ensures.items } in
-    is_exact c.in_ok-slots.slots labels c.in_ok-recorded.recorded
-    (opened c.in_ok-slots.slots c.in_ok-slots.ensures labels c.in_ok-recorded.recorded c.new.ensures.items c.new-2.ensures c.in_ok-recorded.ensures)
+    is_exact c.in_ok-slots.slots labels c.new-3.result
+    (opened c.in_ok-slots.slots c.in_ok-slots.ensures labels c.new-3.result c.new.ensures.items c.new-2.ensures c.new-3.ensures)
     (seen c.in_ok-slots.slots labels) refl

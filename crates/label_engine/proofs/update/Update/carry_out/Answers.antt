@@ -9,8 +9,8 @@ put_all_in-requires c =
 
 pub returns-in_err-add_unions-clause-survives : goal.returns-in_err-add_unions-clause-survives
 returns-in_err-add_unions-clause-survives c =
-    let s = survives_same c.args.self.now in
-    record { agrees = s.agrees; same_slot = s.same_slot; added = s.added; recorded = s.recorded; newly = s.newly; met = s.met; once = s.once }
+    let s = survives_same c.args.slots.now c.args.self.now in
+    record { agrees = s.agrees; same_slot = s.same_slot; stay = s.stay; lead = s.lead; met = s.met; once = s.once }
 
 pub add_unions-requires-clause-maker : goal.add_unions-requires-clause-maker
 add_unions-requires-clause-maker c = maker_fits c.args.slots.now c.args.self.now.slot c.args.self.now.nodes c.args.self.now.recorded c.args.self.now.due.items c.args.self.now.work.items c.args.self.now.agenda c.args.item.now c.requires.at_hand c.slots_fit.ensures

@@ -14,10 +14,10 @@ returns-else-not-is_met-clause-ok c =
     ready_met c.args.slots.now c.args.due.now c.args.self.now c.requires (λ f e. let both : Some c.in-Some.fact ≡ Some f = sym c.in-Some.is ∙ e in let same : c.in-Some.fact ≡ f = cc in subst (IsIn (facts_of c.args.self.now.nodes.list.items)) same (met_is c.args.self.now.nodes.list.items c.in-Some.fact (sym c.is_met.ensures ∙ c.if-not-is_met.false)))
 
 pub returns-else-not-is_met-clause-survives : goal.returns-else-not-is_met-clause-survives
-returns-else-not-is_met-clause-survives c = survives_same c.args.self.now
+returns-else-not-is_met-clause-survives c = survives_same c.args.slots.now c.args.self.now
 
 pub returns-in_default-clause-survives : goal.returns-in_default-clause-survives
-returns-in_default-clause-survives c = survives_same c.args.self.now
+returns-in_default-clause-survives c = survives_same c.args.slots.now c.args.self.now
 
 pub meet-requires : goal.meet-requires
 meet-requires c = unmet_is c.args.self.now.nodes.list.items c.in-Some.fact (sym c.is_met.ensures ∙ c.if-not-is_met.true)

@@ -11,17 +11,17 @@ loop-due-preserved c =
     let s = c.put_in.ensures.survives in
     record {
       carries = carries_on c.args.slots.now c.args.self.now c.loop-due.self c.put_in.new.self c.loop-due.invariant.carries (record { propagates = on.propagates; agrees = on.agrees; same_slot = on.same_slot; no_more = on.no_more });
-      survives = survives_on c.args.self.now c.loop-due.self c.put_in.new.self c.loop-due.invariant.survives s.agrees s.same_slot s.added s.recorded s.newly s.met s.once;
+      survives = survives_on c.args.slots.now c.args.self.now c.loop-due.self c.put_in.new.self c.loop-due.invariant.survives (record { agrees = s.agrees; same_slot = s.same_slot; stay = s.stay; lead = s.lead; met = s.met; once = s.once });
       work_same = c.in_ok-put_in.ensures.work_same ∙ c.loop-due.invariant.work_same;
     }
 
 pub returns-in_err-put_in-clause-survives : goal.returns-in_err-put_in-clause-survives
 returns-in_err-put_in-clause-survives c =
     let s = c.put_in.ensures.survives in
-    survives_on c.args.self.now c.loop-due.self c.put_in.new.self c.loop-due.invariant.survives s.agrees s.same_slot s.added s.recorded s.newly s.met s.once
+    survives_on c.args.slots.now c.args.self.now c.loop-due.self c.put_in.new.self c.loop-due.invariant.survives (record { agrees = s.agrees; same_slot = s.same_slot; stay = s.stay; lead = s.lead; met = s.met; once = s.once })
 
 pub loop-due-init : goal.loop-due-init
-loop-due-init c = record { carries = carries_same c.args.slots.now c.args.self.now c.requires; survives = survives_same c.args.self.now; work_same = refl }
+loop-due-init c = record { carries = carries_same c.args.slots.now c.args.self.now c.requires; survives = survives_same c.args.slots.now c.args.self.now; work_same = refl }
 
 pub returns-clause-ok : goal.returns-clause-ok
 returns-clause-ok c =

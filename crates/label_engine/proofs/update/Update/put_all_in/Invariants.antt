@@ -5,7 +5,7 @@ use Rattle.label_engine.proofs.update.Update.put_all_in.Given as goal
 abbrev pub invariant-loop-due : goal.invariant-loop-due
 invariant-loop-due l = record {
   carries : CarriesOn l.slots l.initial.self l.self;
-  survives : Survives l.initial.self l.self;
+  survives : Survives l.slots l.initial.self l.self;
   work_same : l.self.work.items ≡ l.initial.self.work.items;
 }
 

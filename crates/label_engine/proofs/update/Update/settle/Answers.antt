@@ -13,7 +13,7 @@ picks-init g c =
       propagates = c.in_ok-work_off.ensures.ok.propagates;
       none_due = c.in_ok-work_off.ensures.none_due;
       none_at_hand = c.in_ok-work_off.ensures.none_at_hand;
-      survives = survives_on c.args.self.now c.put_all_in.new.self c.work_off.new.self c.put_all_in.ensures.survives s.agrees s.same_slot s.added s.recorded s.newly s.met s.once;
+      survives = survives_on c.args.slots.now c.args.self.now c.put_all_in.new.self c.work_off.new.self c.put_all_in.ensures.survives (record { agrees = s.agrees; same_slot = s.same_slot; stay = s.stay; lead = s.lead; met = s.met; once = s.once });
     }
 
 pub picks-preserved : goal.picks-preserved
@@ -24,18 +24,18 @@ picks-preserved g c =
       propagates = on.propagates;
       none_due = c.in_ok-bring_in.ensures.none_due;
       none_at_hand = c.in_ok-bring_in.ensures.none_at_hand;
-      survives = survives_on c.args.self.now c.picks.self c.bring_in.new.self c.picks.invariant.survives s.agrees s.same_slot s.added s.recorded s.newly s.met s.once;
+      survives = survives_on c.args.slots.now c.args.self.now c.picks.self c.bring_in.new.self c.picks.invariant.survives (record { agrees = s.agrees; same_slot = s.same_slot; stay = s.stay; lead = s.lead; met = s.met; once = s.once });
     }
 
 pub returns-in_err-work_off-clause-survives : goal.returns-in_err-work_off-clause-survives
 returns-in_err-work_off-clause-survives g c =
     let s = c.work_off.ensures.survives in
-    survives_on c.args.self.now c.put_all_in.new.self c.work_off.new.self c.put_all_in.ensures.survives s.agrees s.same_slot s.added s.recorded s.newly s.met s.once
+    survives_on c.args.slots.now c.args.self.now c.put_all_in.new.self c.work_off.new.self c.put_all_in.ensures.survives (record { agrees = s.agrees; same_slot = s.same_slot; stay = s.stay; lead = s.lead; met = s.met; once = s.once })
 
 pub returns-in_err-bring_in-clause-survives : goal.returns-in_err-bring_in-clause-survives
 returns-in_err-bring_in-clause-survives g c =
     let s = c.bring_in.ensures.survives in
-    survives_on c.args.self.now c.picks.self c.bring_in.new.self c.picks.invariant.survives s.agrees s.same_slot s.added s.recorded s.newly s.met s.once
+    survives_on c.args.slots.now c.args.self.now c.picks.self c.bring_in.new.self c.picks.invariant.survives (record { agrees = s.agrees; same_slot = s.same_slot; stay = s.stay; lead = s.lead; met = s.met; once = s.once })
 
 pub returns-clause-ok : goal.returns-clause-ok
 returns-clause-ok g c =

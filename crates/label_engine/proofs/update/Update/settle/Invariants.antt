@@ -7,7 +7,7 @@ invariant-picks g l = record {
   propagates : Propagates l.slots l.self;
   none_due : l.self.due.items ≡ [];
   none_at_hand : l.self.work.items ≡ [];
-  survives : Survives l.fn.self l.self;
+  survives : Survives l.slots l.fn.self l.self;
 }
 
 abbrev pub decreases-picks : goal.decreases-picks

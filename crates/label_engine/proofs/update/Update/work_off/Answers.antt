@@ -18,17 +18,17 @@ loop-item-preserved c =
     let s = c.carry_out.ensures.survives in
     record {
       carries = carries_on c.args.slots.now c.args.self.now c.loop-item.self c.carry_out.new.self c.loop-item.invariant.carries (record { propagates = on.propagates; agrees = on.agrees; same_slot = on.same_slot; no_more = on.no_more });
-      survives = survives_on c.args.self.now c.loop-item.self c.carry_out.new.self c.loop-item.invariant.survives s.agrees s.same_slot s.added s.recorded s.newly s.met s.once;
+      survives = survives_on c.args.slots.now c.args.self.now c.loop-item.self c.carry_out.new.self c.loop-item.invariant.survives (record { agrees = s.agrees; same_slot = s.same_slot; stay = s.stay; lead = s.lead; met = s.met; once = s.once });
       none_due = c.in_ok-carry_out.ensures.none_due;
     }
 
 pub returns-in_err-carry_out-clause-survives : goal.returns-in_err-carry_out-clause-survives
 returns-in_err-carry_out-clause-survives c =
     let s = c.carry_out.ensures.survives in
-    survives_on c.args.self.now c.loop-item.self c.carry_out.new.self c.loop-item.invariant.survives s.agrees s.same_slot s.added s.recorded s.newly s.met s.once
+    survives_on c.args.slots.now c.args.self.now c.loop-item.self c.carry_out.new.self c.loop-item.invariant.survives (record { agrees = s.agrees; same_slot = s.same_slot; stay = s.stay; lead = s.lead; met = s.met; once = s.once })
 
 pub loop-item-init : goal.loop-item-init
-loop-item-init c = record { carries = carries_same c.args.slots.now c.args.self.now c.requires.propagates; survives = survives_same c.args.self.now; none_due = c.requires.none_due }
+loop-item-init c = record { carries = carries_same c.args.slots.now c.args.self.now c.requires.propagates; survives = survives_same c.args.slots.now c.args.self.now; none_due = c.requires.none_due }
 
 pub returns-clause-ok : goal.returns-clause-ok
 returns-clause-ok c =

@@ -1,9 +1,0 @@
-use Rattle.std.proofs.Common.{ℕ, ◌<◌}
-use Rattle.inference_search.specs.Choices.{Finds, IsMadeAtSome, IsDoneAt}
-use Rattle.inference_search.proofs.components.add_slots.Given as goal
-
-abbrev pub invariant-loop-slot : goal.invariant-loop-slot
-invariant-loop-slot l =
-    Finds (IsMadeAtSome l.slots l.search.must)
-    (λ found. (k : ℕ) → k < l.slot → IsDoneAt l.slots l.search.facts.now l.search.must k found)
-    l.fn.found.items l.found.items
