@@ -16,3 +16,4 @@ pub mod Membership
 pub mod Ranges
 pub mod Sorting
 pub mod Elements
+pub mod Stepping

@@ -7,4 +7,5 @@ pub mod Walks
 pub mod Costs
 pub mod Counts
 pub mod Signatures
+pub mod Steps
 pub mod Laws

@@ -2,6 +2,7 @@
 ghost use Rattle.std.specs.Prelude.{◌≡◌, ℕ, ◌^◌, ◌<◌, length, slice_index};
 ghost use Rattle.environment_sets.specs.declared.environment.TheConstants.{SLOTS, WORD_BITS, WORDS};
 
+use crate::word::next_bit;
 use std::cmp::Ordering;
 
 /// Each slot is below this number.
@@ -25,11 +26,12 @@ pub struct Env {
 }
 
 impl Env {
-    ghost use Rattle.std.specs.Prelude.{◌↔◌, IsTrue};
+    ghost use Rattle.std.specs.Prelude.{◌↔◌, IsTrue, MatchOption, IfSome};
     ghost use Rattle.environment_sets.specs.Sets.{no_elements, only, size_below, is_within, Hits, ◌∪◌, ◌∩◌, ◌∖◌, ◌⊆◌};
     ghost use Rattle.environment_sets.specs.Members.{members};
     ghost use Rattle.environment_sets.specs.Orders.{compare_in, by_first, ListsAll, IsOrder};
     ghost use Rattle.environment_sets.specs.Signatures.{signature, IsSignature};
+    ghost use Rattle.environment_sets.specs.Steps.{HasNoneFrom, IsNextFrom};
 
     /// The environment with no slot.
     pub fn empty() -> Env
@@ -113,6 +115,21 @@ impl Env {
         ensures { result ≡ members self.now slot }
     {
         (self.words[slot as usize / WORD_BITS] >> (slot as usize % WORD_BITS)) & 1 == 1
+    }
+
+    /// The least slot from this one on that is in the set. Words with none are passed over.
+    pub fn next_from(&self, from: u16) -> Option<u16>
+        ensures next { MatchOption result (HasNoneFrom (members self.now) from) (λ slot. IsNextFrom (members self.now) from slot) }
+        ensures below { IfSome result (λ slot. slot < SLOTS) }
+    {
+        let mut bit = from % WORD_BITS as u16;
+        for i in from as usize / WORD_BITS..WORDS {
+            if let Some(found) = next_bit(self.words[i], bit) {
+                return Some((i * WORD_BITS) as u16 + found);
+            }
+            bit = 0;
+        }
+        None
     }
 
     /// How many slots the environment has, at most [`SLOTS`].

@@ -4,6 +4,7 @@
 mod environment;
 mod environment_list;
 mod laws;
+mod word;
 
 pub use environment::{Env, SLOTS};
 pub use environment_list::EnvList;

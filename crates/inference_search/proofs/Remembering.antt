@@ -1,6 +1,6 @@
 -- What is remembered at a slot.
-use Rattle.std.proofs.Common.{◌≡◌, ℕ, ◌<◌, true, false, nat_lt, IsTrue, List, length, Option, Some, None, slice_get, refl, sym, subst, ◌∙◌, arith}
-use Rattle.std.proofs.lemmas.Bool.Decides.{nat_tests}
+use Rattle.std.proofs.Common.{◌≡◌, inl, inr, ℕ, ◌<◌, ◌≤◌, IsTrue, List, length, Option, Some, slice_get, subst, arith}
+use Rattle.std.proofs.lemmas.Bool.{cases_lt}
 use Rattle.std.proofs.lemmas.Option.{slice_get_within}
 use Rattle.circuit_model.specs.declared.model.Fact.{Fact}
 use Rattle.circuit_model.specs.declared.model.Instance.{Instance}
@@ -8,9 +8,10 @@ use Rattle.circuit_model.specs.declared.model.Assumption.{Assumption}
 use Rattle.circuit_model.specs.declared.model.Assumption.TheVariants.{Part}
 use Rattle.environment_sets.specs.Sets.{Set}
 use Rattle.environment_sets.specs.Lists.{IsIn}
+use Rattle.environment_sets.specs.Steps.{HasNoneFrom, IsNextFrom}
 use Rattle.environment_sets.proofs.Membership.{IsIn-slice_get, slice_get-IsIn}
 use Rattle.inference_search.specs.declared.inferred.Inferred.{Inferred}
-use Rattle.assumption_slots.specs.Slots.{stock, AreFreeFrom}
+use Rattle.assumption_slots.specs.Slots.{stock}
 use Rattle.inference_search.specs.Choices.{Uses, IsMade, IsMadeOf, IsMadeAt, IsDonePart, IsDoneAt}
 
 -- what holds of the instance at each place holds of each instance
@@ -34,14 +35,17 @@ module _ (slots : List (Option Assumption)) (must : Option Fact) (slot : ℕ) (p
       let P : List Instance → Type 0 = λ part. IsDonePart slot from must part found in
       subst P same done
 
--- from the end of what is remembered on nothing is to be found
-pub done_past : (slots : List (Option Assumption)) (must : Option Fact) (from : List Fact) (found : List Inferred) (end : ℕ) → AreFreeFrom slots end → ((k : ℕ) → k < end → IsDoneAt slots from must k found)
-    → (k : ℕ) → IsDoneAt slots from must k found
-done_past slots must from found end free done k part at =
-    elim (nat_lt k end) as (λ b. nat_lt k end ≡ b → IsDonePart k from must part found) [
-      | true ↦ λ is. done k (grind (arith, nat_tests)) part at
-      | false ↦ λ is. let bad : None ≡ Some (Part part) = sym (free k (grind (arith, nat_tests))) ∙ at in absurd (cc)
-    ] refl
+-- what is done at the slots of a set below one number is done at those below the next slot
+pub done_below_next : (near : Set ℕ) (Done : ℕ → Type 0) (from slot : ℕ) → IsNextFrom near from slot → ((k : ℕ) → k < from → IsTrue (near k) → Done k) → (k : ℕ) → k < slot → IsTrue (near k) → Done k
+done_below_next near Done from slot next done k below is =
+    elim (cases_lt k from) [
+      | inl early ↦ done k early is
+      | inr late ↦ let past : slot ≤ k = next.least k late is in absurd (omega arith)
+    ]
+
+-- where there is no next slot, it is done at each slot of the set
+pub done_at_each : (near : Set ℕ) (Done : ℕ → Type 0) (from : ℕ) → HasNoneFrom near from → ((k : ℕ) → k < from → IsTrue (near k) → Done k) → (k : ℕ) → IsTrue (near k) → Done k
+done_at_each near Done from none done k is = elim (cases_lt k from) [ inl early ↦ done k early is | inr late ↦ absurd (none k late is) ]
 
 -- a component that has no port at the fact's cell has nothing to be found that uses the fact
 pub done_near : (slots : List (Option Assumption)) (must : Option Fact) (from : List Fact) (found : List Inferred) (fact : Fact) (near : Set ℕ) → must ≡ Some fact

@@ -1,8 +1,7 @@
 // The inferences of what is remembered.
 
-ghost use Rattle.std.specs.Prelude.{◌≡◌, ℕ, ◌<◌, IsTrue, Some, IfOk, length};
+ghost use Rattle.std.specs.Prelude.{◌≡◌, ℕ, ◌<◌, Some, IfOk, length};
 ghost use Rattle.environment_sets.specs.declared.environment.TheConstants.{SLOTS};
-ghost use Rattle.environment_sets.specs.Members.{members};
 ghost use Rattle.inference_search.specs.Choices.{Finds, IsMadeOf, IsDonePart, IsMadeAt, IsMadeAtSome, IsDoneAt};
 
 use crate::asking::Asking;
@@ -10,7 +9,6 @@ use crate::choices::add_instance;
 use crate::inferred::Inferred;
 use assumption_slots::Slots;
 use circuit_model::{Assumption, Fact, Part};
-use environment_sets::Env;
 use std::alloc::{AllocError, Global};
 
 /// The facts that may be known, and the one that has to be used, if there is one.
@@ -57,23 +55,6 @@ pub fn add_slot(
     }
 }
 
-/// Adds the inferences of what is remembered at the slot, if it is one of these.
-fn add_slot_of(
-    search: &Search,
-    found: &mut Vec<Inferred>,
-    slots: &Slots,
-    near: &Env,
-    slot: u16,
-) -> Result<(), AllocError>
-    requires { slot < SLOTS }
-    ensures { IfOk result (λ _. Finds (IsMadeAt slots.now search.now.must slot) (λ found. IsTrue (members near.now slot) → IsDoneAt slots.now search.now.facts.now search.now.must slot found) found.old.items found.new.items) }
-{
-    if !near.has(slot) {
-        return Ok(());
-    }
-    add_slot(search, found, slots, slot)
-}
-
 /// Adds the inferences of all that is remembered, which are those of the components with a port at the fact's cell.
 pub fn add_near(
     search: &Search,
@@ -85,8 +66,10 @@ pub fn add_near(
     ensures { IfOk result (λ _. Finds (IsMadeAtSome slots.now search.now.must) (λ found. (slot : ℕ) → slot < length slots.now → IsDoneAt slots.now search.now.facts.now search.now.must slot found) found.old.items found.new.items) }
 {
     let near = slots.near(fact.cell);
-    for slot in 0..slots.end() {
-        add_slot_of(search, found, slots, near, slot as u16)?;
+    let mut next = 0;
+    while let Some(slot) = near.next_from(next) {
+        add_slot(search, found, slots, slot)?;
+        next = slot + 1;
     }
     Ok(())
 }
