@@ -14,7 +14,7 @@ use Rattle.environment_sets.specs.Sets.{◌⊆◌}
 use Rattle.environment_sets.specs.Lists.{IsIn}
 use Rattle.environment_sets.specs.Signatures.{signature}
 use Rattle.environment_sets.proofs.Membership.{slice_get-IsIn}
-use Rattle.antichains.specs.Signed.{blocks_of, AreShared, IsSigned, NoneInBlock, NoneMayCover}
+use Rattle.antichains.specs.Signed.{blocks_of, AreShared, AreSharedBelow, IsSigned, NoneInBlock, NoneMayCover}
 use Rattle.antichains.specs.declared.signed_list.SignedList.{SignedList}
 use Rattle.antichains.proofs.Signing.{own_number, subset_needs}
 use Rattle.antichains.specs.declared.signed_list.TheConstants.{BLOCK}
@@ -36,11 +36,6 @@ part_of_first a b = ap (λ x. bit_and x a) (and_comm a b) ∙ (part_of_second b 
 -- what is left of a block with one signature more, as the code computes it
 abbrev pub left_with : List ℕ → ℕ → ℕ → ℕ
 left_with shared place w = cond (place % BLOCK == 0) w (bit_and (get_or shared (place / BLOCK) 0) w)
-
--- below i, what stands for the block of a signature is part of it
-pub record AreSharedBelow (ws shared : List ℕ) (i : ℕ) : Type 0 where
-  pub blocks : length shared ≡ blocks_of (length ws)
-  pub part : (k : ℕ) → k < i → IsPart (get_or shared (k / BLOCK) 0) (get_or ws k 0)
 
 module _ (ws shared : List ℕ) (i : ℕ) (so : AreSharedBelow ws shared i) (low : i < length ws) where
   abbrev w : ℕ
@@ -79,8 +74,8 @@ module _ (ws shared : List ℕ) (i : ℕ) (so : AreSharedBelow ws shared i) (low
         ];
       }
 
-pub none_shared : (ws shared : List ℕ) → length shared ≡ blocks_of (length ws) → AreSharedBelow ws shared 0
-none_shared ws shared blocks = record { blocks = blocks; part = λ k h. absurd (omega arith) }
+pub fewer_shared : (ws shared : List ℕ) (i j : ℕ) → j ≤ i → AreSharedBelow ws shared i → AreSharedBelow ws shared j
+fewer_shared ws shared i j fewer so = record { blocks = so.blocks; part = λ k low. so.part k (omega (arith, low, fewer)) }
 
 pub all_shared : (ws shared : List ℕ) (i : ℕ) → length ws ≤ i → AreSharedBelow ws shared i → AreShared ws shared
 all_shared ws shared i all so = record { blocks = so.blocks; part = λ k low. so.part k (omega (arith, low, all)) }

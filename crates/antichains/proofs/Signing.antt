@@ -1,5 +1,5 @@
 -- Lists of environments with their signatures.
-use Rattle.std.proofs.Common.{◌≡◌, ◌≢◌, ℕ, suc, ◌+◌, ◌-◌, ◌<◌, ◌≤◌, inl, inr, Bool, true, false, cond, refl, sym, ap, subst, ◌∙◌, List, [], ◌∷◌, length, get_or, set, map, Some, bit_and, arith, get_or-set_same, get_or-set_other, length-set, below_more}
+use Rattle.std.proofs.Common.{◌≡◌, ◌≢◌, ℕ, zero, suc, ◌+◌, ◌-◌, ◌<◌, ◌≤◌, inl, inr, Bool, true, cond, refl, sym, ap, subst, ◌∙◌, List, [], ◌∷◌, length, get_or, set, map, Some, bit_and, arith, get_or-set_same, get_or-set_other, length-set, below_more}
 use Rattle.std.specs.List.{filter, slice_get}
 use Rattle.std.proofs.lemmas.Bool.{cases_lt}
 use Rattle.std.proofs.lemmas.List.{length-map, get_or_default, same_lists, get_or-map}
@@ -10,23 +10,15 @@ use Rattle.environment_sets.specs.Members.{members, HasMember}
 use Rattle.environment_sets.specs.Families.{IsCovered}
 use Rattle.environment_sets.specs.Lists.{IsIn}
 use Rattle.environment_sets.specs.Signatures.{signature}
-use Rattle.environment_sets.proofs.Membership.{IsIn-map, map-IsIn, slice_get-IsIn, IsIn-slice_get}
+use Rattle.environment_sets.proofs.Membership.{IsIn-map, slice_get-IsIn}
 use Rattle.environment_sets.proofs.Signed.{subsets_have_less}
-use Rattle.antichains.specs.Signed.{IsInsideAMember}
+use Rattle.antichains.specs.Signed.{AreWritten, NoneBefore}
 
 -- ---- numbers of the environments that are written one by one
-
--- below i, each number is f of the environment at its place
-pub record AreWritten (f : Env → ℕ) (es : List Env) (ws : List ℕ) (i : ℕ) : Type 0 where
-  pub long : length ws ≡ length es
-  pub below : (k : ℕ) → k < i → get_or ws k 0 ≡ get_or (map f es) k 0
 
 -- f of the environment at the place
 pub number_at : (f : Env → ℕ) (es : List Env) (i : ℕ) (m : Env) → i < length es → m ≡ get_or es i m → get_or (map f es) i 0 ≡ f m
 number_at f es i m low is = get_or-map f es i m 0 low ∙ ap f (sym is)
-
-pub none_written : (f : Env → ℕ) (es : List Env) (ws : List ℕ) → length ws ≡ length es → AreWritten f es ws 0
-none_written f es ws long = record { long = long; below = λ k h. absurd (omega arith) }
 
 pub one_more_written : (f : Env → ℕ) (es : List Env) (ws : List ℕ) (i w : ℕ) (m : Env) → AreWritten f es ws i → i < length es → m ≡ get_or es i m → w ≡ f m → AreWritten f es (set ws i w) (i + 1)
 one_more_written f es ws i w m so low is written = record {
@@ -54,13 +46,10 @@ subset_needs e f a b own other within = rw (own, other) (subsets_have_less e f w
 -- ---- environments of which none has a property, up to a place
 
 module _ (P : Env → Type 0) (es : List Env) where
-  abbrev pub NoneBefore : ℕ → Type 0
-  NoneBefore i = (k : ℕ) (e : Env) → k < i → slice_get es k ≡ Some e → P e → ⊥
-
   abbrev pub NoneBehind : ℕ → Type 0
   NoneBehind i = (k : ℕ) (e : Env) → i ≤ k → slice_get es k ≡ Some e → P e → ⊥
 
-  pub none_before_more : (i : ℕ) → NoneBefore i → ((e : Env) → slice_get es i ≡ Some e → P e → ⊥) → NoneBefore (i + 1)
+  pub none_before_more : (i : ℕ) → NoneBefore P es i → ((e : Env) → slice_get es i ≡ Some e → P e → ⊥) → NoneBefore P es (i + 1)
   none_before_more i none here k e low at holds =
       elim (cases_lt k i) [
         | inl lower ↦ none k e lower at holds
@@ -80,43 +69,36 @@ module _ (P : Env → Type 0) (es : List Env) where
   pub none_at_all : (i : ℕ) → i ≤ 0 → NoneBehind i → (e : Env) → IsIn es e → P e → ⊥
   none_at_all i first none e there holds = let at : (k : ℕ) × (slice_get es k ≡ Some e) = slice_get-IsIn es e there in none at.0 e (omega arith) at.1 holds
 
-  pub none_before_all : (n : ℕ) → length es ≤ n → NoneBefore n → (e : Env) → IsIn es e → P e → ⊥
-  none_before_all n all none e there holds =
-      let at : (k : ℕ) × (slice_get es k ≡ Some e) = slice_get-IsIn es e there in
-      let low : at.0 < length es = slice_get_within es at.0 e at.1 in
-      none at.0 e (omega arith) at.1 holds
-
 -- ---- subsets and supersets among them
 
 module _ (env : Env) (es : List Env) where
   pub not_covered : ((e : Env) → IsIn es e → members e ⊆ members env → ⊥) → IsCovered (HasMember es) (members env) → ⊥
   not_covered none (E, member, within) = let e : (e : Env) × IsIn es e × (members e ≡ E) = IsIn-map members es E member in none e.0 e.1 (subst (λ (F : Set ℕ). F ⊆ members env) (sym e.2) within)
 
-  pub not_inside : ((e : Env) → IsIn es e → members env ⊆ members e → ⊥) → IsInsideAMember es (members env) → ⊥
-  not_inside none (E, member, within) = let e : (e : Env) × IsIn es e × (members e ≡ E) = IsIn-map members es E member in none e.0 e.1 (subst (λ (F : Set ℕ). members env ⊆ F) (sym e.2) within)
-
-  pub inside_in : (e : Env) → IsIn es e → members env ⊆ members e → IsInsideAMember es (members env)
-  inside_in e there within = (members e, map-IsIn members es e there, within)
-
-  pub inside_of : (i : ℕ) (e : Env) → slice_get es i ≡ Some e → members env ⊆ members e → IsInsideAMember es (members env)
-  inside_of i e at within = (members e, map-IsIn members es e (IsIn-slice_get es i e at), within)
-
 -- ---- what is left by a test
 
-length-filter : {X : Type 0} (test : X → Bool) (xs : List X) → length (filter test xs) ≤ length xs
-length-filter test [] = omega arith
-length-filter test (x ∷ xs) =
-    let rest : length (filter test xs) ≤ length xs = length-filter test xs in
-    elim (test x) as (λ b. length (cond b (x ∷ filter test xs) (filter test xs)) ≤ suc (length xs)) [ true ↦ omega (arith, rest) | false ↦ omega (arith, rest) ]
+-- numbers that are the same below n, behind one more
+same_from : (w : ℕ) (xs ys : List ℕ) (n : ℕ) → ((k : ℕ) → k < n → get_or xs k 0 ≡ get_or ys k 0) → (k : ℕ) → k < suc n → get_or (w ∷ xs) k 0 ≡ get_or (w ∷ ys) k 0
+same_from w xs ys n same zero low = refl
+same_from w xs ys n same (suc k) low = same k (omega (arith, low))
 
--- where as many are left, all are
-pub none_dropped : {X : Type 0} (test : X → Bool) (xs : List X) → length xs ≤ length (filter test xs) → filter test xs ≡ xs
-none_dropped test [] many = refl
-none_dropped test (x ∷ xs) many =
-    let rest : length (filter test xs) ≤ length xs = length-filter test xs in
-    elim (test x) as (λ b. suc (length xs) ≤ length (cond b (x ∷ filter test xs) (filter test xs)) → cond b (x ∷ filter test xs) (filter test xs) ≡ x ∷ xs) [
-      | true ↦ λ m. ap (λ l. x ∷ l) (none_dropped test xs (omega (arith, m)))
-      | false ↦ λ m. absurd (omega (arith, m, rest))
-    ] many
+-- those before a place that all pass are left at their places
+module _ (test : Env → Bool) where
+  pub front_left : (es : List Env) (n : ℕ) → n ≤ length es → ((k : ℕ) (e : Env) → k < n → slice_get es k ≡ Some e → test e ≡ true) → n ≤ length (filter test es)
+  front_left es zero inside passes = omega arith
+  front_left [] (suc n) inside passes = absurd (omega (arith, inside))
+  front_left (e ∷ es) (suc n) inside passes =
+      let first : test e ≡ true = passes 0 e (omega arith) refl in
+      let rest : n ≤ length (filter test es) = front_left es n (omega (arith, inside)) (λ k x low at. passes (suc k) x (omega (arith, low)) at) in
+      let P : Bool → Type 0 = λ b. suc n ≤ length (cond b (e ∷ filter test es) (filter test es)) in
+      subst P (sym first) (omega (arith, rest))
+
+  pub front_mapped : (f : Env → ℕ) (es : List Env) (n : ℕ) → n ≤ length es → ((k : ℕ) (e : Env) → k < n → slice_get es k ≡ Some e → test e ≡ true) → (k : ℕ) → k < n → get_or (map f es) k 0 ≡ get_or (map f (filter test es)) k 0
+  front_mapped f es zero inside passes k low = absurd (omega (arith, low))
+  front_mapped f [] (suc n) inside passes k low = absurd (omega (arith, inside))
+  front_mapped f (e ∷ es) (suc n) inside passes k low =
+      let first : test e ≡ true = passes 0 e (omega arith) refl in
+      let P : Bool → Type 0 = λ b. get_or (map f (e ∷ es)) k 0 ≡ get_or (map f (cond b (e ∷ filter test es) (filter test es))) k 0 in
+      subst P (sym first) (same_from (f e) (map f es) (map f (filter test es)) n (front_mapped f es n (omega (arith, inside)) (λ j x l a. passes (suc j) x (omega (arith, l)) a)) k low)
 
 -- a test of equal numbers that holds

@@ -3,7 +3,7 @@ use Rattle.std.specs.Prelude.{◌≡◌, ◌<◌, ◌≤◌, ◌+◌, ◌-◌, �
 use Rattle.environment_sets.specs.declared.environment.Env.{Env}
 use Rattle.environment_sets.specs.declared.environment.TheConstants.{SLOTS}
 use Rattle.environment_sets.specs.Sets.{Set, ◌⊆◌, size_below}
-use Rattle.environment_sets.specs.Members.{members, HasMember}
+use Rattle.environment_sets.specs.Members.{members}
 use Rattle.environment_sets.specs.Signatures.{signature}
 use Rattle.antichains.specs.declared.signed_list.SignedList.{SignedList}
 use Rattle.antichains.specs.declared.signed_list.TheConstants.{BLOCK}
@@ -20,6 +20,25 @@ blocks_of count = (count + BLOCK - 1) / BLOCK
 pub record AreShared (signatures shared : List ℕ) : Type 0 where
   pub blocks : length shared ≡ blocks_of (length signatures)
   pub part : (k : ℕ) → k < length signatures → bit_and (slice_index shared (k / BLOCK)) (slice_index signatures k) ≡ slice_index shared (k / BLOCK)
+
+-- the same of the signatures below the place
+pub record AreSharedBelow (signatures shared : List ℕ) (i : ℕ) : Type 0 where
+  pub blocks : length shared ≡ blocks_of (length signatures)
+  pub part : (k : ℕ) → k < i → bit_and (slice_index shared (k / BLOCK)) (slice_index signatures k) ≡ slice_index shared (k / BLOCK)
+
+-- there are as many numbers as environments, and below the place each is f of the environment there
+pub record AreWritten (f : Env → ℕ) (es : List Env) (ws : List ℕ) (i : ℕ) : Type 0 where
+  pub long : length ws ≡ length es
+  pub below : (k : ℕ) → k < i → slice_index ws k ≡ slice_index (map f es) k
+
+-- none of the environments before the place has the property
+abbrev pub NoneBefore : (Env → Type 0) → List Env → ℕ → Type 0
+NoneBefore P es i = (k : ℕ) (e : Env) → k < i → slice_get es k ≡ Some e → P e → ⊥
+
+-- there is an environment at the place, and none before it has the property
+pub record IsBehindNone (P : Env → Type 0) (es : List Env) (place : ℕ) : Type 0 where
+  pub inside : place < length es
+  pub none : NoneBefore P es place
 
 -- what stands for the block is part of the signature
 abbrev pub MayCover : List ℕ → ℕ → ℕ → Type 0
@@ -49,13 +68,15 @@ pub record IsSigned (s : SignedList) : Type 0 where
   pub shared : AreShared s.signatures.items s.shared.items
   pub sizes : s.sizes.items ≡ map size_of s.list.items
 
+-- the signatures and the sizes of the environments before the place stand there, and there are at least so many environments
+pub record IsSignedBefore (s : SignedList) (from : ℕ) : Type 0 where
+  pub within : from ≤ length s.list.items
+  pub signatures : (k : ℕ) → k < from → slice_index s.signatures.items k ≡ slice_index (map signature s.list.items) k
+  pub sizes : (k : ℕ) → k < from → slice_index s.sizes.items k ≡ slice_index (map size_of s.list.items) k
+
 -- there is room for one environment more
 pub record HasRoom (s : SignedList) : Type 0 where
   pub list : vec_len s.list < vec_capacity s.list
   pub signatures : vec_len s.signatures < vec_capacity s.signatures
   pub shared : vec_len s.shared < vec_capacity s.shared
   pub sizes : vec_len s.sizes < vec_capacity s.sizes
-
--- the set is a subset of one of the environments
-abbrev pub IsInsideAMember : List Env → Set ℕ → Type 0
-IsInsideAMember es E = (F : Set ℕ) × HasMember es F × (E ⊆ F)

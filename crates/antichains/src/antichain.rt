@@ -1,12 +1,12 @@
 // Sets of environments, none of which contains another.
-ghost use Rattle.std.specs.Prelude.{◌≡◌, ◌<◌, ◌↔◌, IsTrue, OnOk, OnErr, IfOk, IfSome, MatchBool, MatchOption, Some, Ok, [], filter, not, vec_len, vec_capacity};
-ghost use Rattle.std.specs.Option.{ForSome, option_map, option_copied};
+ghost use Rattle.std.specs.Prelude.{◌≡◌, ◌<◌, ◌↔◌, IsTrue, OnOk, OnErr, IfOk, IfSome, Some, Ok, [], filter, not};
+ghost use Rattle.std.specs.Option.{ForSome, option_copied};
 ghost use Rattle.environment_sets.specs.Sets.{◌⊆◌, is_within};
-ghost use Rattle.environment_sets.specs.Lists.{IsRoster};
+ghost use Rattle.environment_sets.specs.Lists.{AreDistinct, IsRoster};
 ghost use Rattle.environment_sets.specs.Members.{members, sets, HasMember};
 ghost use Rattle.environment_sets.specs.Families.{IsCovered, IsAntichain, Adds, Drops, AreInside};
 ghost use Rattle.environment_sets.specs.Orders.{ListsAll, IsOrder};
-ghost use Rattle.environment_sets.specs.Walks.{ComesAfter, GivesNextEnv, envs_left};
+ghost use Rattle.environment_sets.specs.Walks.{GivesNextEnv, envs_left};
 ghost use Rattle.antichains.specs.Completed.{Complete, Lacking};
 ghost use Rattle.antichains.specs.Largest.{AreAtMost, AreWithin};
 ghost use Rattle.antichains.specs.Signed.{HasSubsetAt, IsSigned, HasRoom};
@@ -133,7 +133,8 @@ impl Antichain {
 
     /// The members, in no order that is told.
     pub fn members(&self) -> &[Env]
-        ensures { result.now ≡ self.now }
+        ensures all { result.now ≡ self.now }
+        ensures once { AreDistinct (sets self.now) }
     {
         &self.signed.list
     }

@@ -1,5 +1,5 @@
 // Slots that make an environment contain a member.
-ghost use Rattle.std.specs.Prelude.{◌≡◌, ◌<◌, ◌⊎◌, ℕ, IsTrue, MatchOption};
+ghost use Rattle.std.specs.Prelude.{◌<◌, ◌⊎◌, ℕ, IsTrue, MatchOption};
 ghost use Rattle.environment_sets.specs.Sets.{◌⊆◌, ◌∖◌};
 ghost use Rattle.environment_sets.specs.Members.{members, HasMember};
 ghost use Rattle.antichains.specs.Signed.{IsSigned};

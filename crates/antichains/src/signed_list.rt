@@ -5,7 +5,7 @@ ghost use Rattle.environment_sets.specs.Sets.{◌⊆◌, is_within};
 ghost use Rattle.environment_sets.specs.Members.{members, HasMember};
 ghost use Rattle.environment_sets.specs.Families.{IsCovered};
 ghost use Rattle.environment_sets.specs.Signatures.{signature as signature_of};
-ghost use Rattle.antichains.specs.Signed.{size_of, blocks_of, AreShared, IsSigned, HasRoom, HasSubsetAt, IsInsideAMember, IsLastThatMayCover, MayCover, NoneInBlock, NoneMayCover};
+ghost use Rattle.antichains.specs.Signed.{size_of, blocks_of, AreShared, AreSharedBelow, AreWritten, IsBehindNone, IsSigned, IsSignedBefore, HasRoom, HasSubsetAt, IsLastThatMayCover, MayCover, NoneBefore, NoneInBlock, NoneMayCover};
 
 use environment_sets::{Env, SLOTS};
 use std::alloc::{AllocError, Global};
@@ -71,9 +71,9 @@ impl SignedList {
         ensures signed { IsSigned self.new }
         ensures room { HasRoom self.old → HasRoom self.new }
     {
-        if self.is_inside_a_member(env) {
+        if let Some(first) = self.first_superset(env) {
             self.list.retain(|kept| !env.is_subset(kept));
-            self.sign();
+            self.sign_from(first);
         }
     }
 
@@ -84,10 +84,9 @@ impl SignedList {
         ensures left { self.new.list.items ≡ filter (λ e. not (members e slot)) self.old.list.items }
         ensures signed { IsSigned self.new }
     {
-        let before = self.list.len();
-        self.list.retain(|member| !member.has(slot));
-        if self.list.len() < before {
-            self.sign();
+        if let Some(first) = first_with(&self.list, slot) {
+            self.list.retain(|member| !member.has(slot));
+            self.sign_from(first);
         }
     }
 
@@ -147,18 +146,18 @@ impl SignedList {
         None
     }
 
-    // Whether one of them contains the environment.
-    fn is_inside_a_member(&self, env: &Env) -> bool
+    // The place of the first one that contains the environment.
+    fn first_superset(&self, env: &Env) -> Option<usize>
         requires { IsSigned self.now }
-        ensures { IsTrue result ↔ IsInsideAMember self.now.list.items (members env.now) }
+        ensures { MatchOption result (NoneBefore (λ e. members env.now ⊆ members e) self.now.list.items (length self.now.list.items)) (IsBehindNone (λ e. members env.now ⊆ members e) self.now.list.items) }
     {
         let signature = env.signature();
         for place in 0..self.list.len() {
             if self.is_superset_at(place, env, signature) {
-                return true;
+                return Some(place);
             }
         }
-        false
+        None
     }
 
     // Whether the one at the place is a subset of the environment with this signature.
@@ -182,8 +181,9 @@ impl SignedList {
         signature & self.signatures[place] == signature && env.is_subset(&self.list[place])
     }
 
-    // Writes the signatures and the sizes anew, where some environments were dropped.
-    fn sign(&mut self)
+    // Writes the signatures and the sizes anew from the place on, before which no environment was dropped.
+    fn sign_from(&mut self, from: usize)
+        requires front { IsSignedBefore self.old from }
         requires signatures { vec_len self.old.list ≤ vec_len self.old.signatures }
         requires shared { AreShared self.old.signatures.items self.old.shared.items }
         requires sizes { vec_len self.old.list ≤ vec_len self.old.sizes }
@@ -194,20 +194,33 @@ impl SignedList {
         ensures sizes { vec_len self.old.sizes < vec_capacity self.old.sizes → vec_len self.new.sizes < vec_capacity self.new.sizes }
     {
         self.signatures.truncate(self.list.len());
-        write_signatures(&self.list, &mut self.signatures);
+        write_signatures(&self.list, &mut self.signatures, from);
         self.shared.truncate(blocks_of(self.signatures.len()));
-        write_shared(&self.signatures, &mut self.shared);
+        write_shared(&self.signatures, &mut self.shared, from);
         self.sizes.truncate(self.list.len());
-        write_sizes(&self.list, &mut self.sizes);
+        write_sizes(&self.list, &mut self.sizes, from);
     }
 }
 
-// The signature of each environment is written at its place.
-fn write_signatures(list: &[Env], signatures: &mut [u64])
-    requires { length list.now ≡ length signatures.old }
-    ensures { signatures.new ≡ map signature_of list.now }
+// The place of the first environment that has the slot.
+fn first_with(list: &[Env], slot: u16) -> Option<usize>
+    requires { slot < SLOTS }
+    ensures { MatchOption result (NoneBefore (λ e. IsTrue (members e slot)) list.now (length list.now)) (IsBehindNone (λ e. IsTrue (members e slot)) list.now) }
 {
     for place in 0..list.len() {
+        if list[place].has(slot) {
+            return Some(place);
+        }
+    }
+    None
+}
+
+// The signature of each environment is written at its place, from one place on.
+fn write_signatures(list: &[Env], signatures: &mut [u64], from: usize)
+    requires { AreWritten signature_of list.now signatures.old from }
+    ensures { signatures.new ≡ map signature_of list.now }
+{
+    for place in from..list.len() {
         signatures[place] = list[place].signature();
     }
 }
@@ -235,12 +248,12 @@ fn share(shared: &mut [u64], place: usize, signature: u64)
     }
 }
 
-// What all signatures of a block have is written for each block.
-fn write_shared(signatures: &[u64], shared: &mut [u64])
-    requires { length shared.old ≡ blocks_of (length signatures.now) }
+// What all signatures of a block have is written for each block, from that of the place on.
+fn write_shared(signatures: &[u64], shared: &mut [u64], from: usize)
+    requires { AreSharedBelow signatures.now shared.old from }
     ensures { AreShared signatures.now shared.new }
 {
-    for place in 0..signatures.len() {
+    for place in from - from % BLOCK..signatures.len() {
         share(shared, place, signatures[place]);
     }
 }
@@ -258,12 +271,12 @@ fn push_shared(signatures: &[u64], shared: &mut Vec<u64>, signature: u64)
     }
 }
 
-// The size of each environment is written at its place.
-fn write_sizes(list: &[Env], sizes: &mut [u16])
-    requires { length list.now ≡ length sizes.old }
+// The size of each environment is written at its place, from one place on.
+fn write_sizes(list: &[Env], sizes: &mut [u16], from: usize)
+    requires { AreWritten size_of list.now sizes.old from }
     ensures { sizes.new ≡ map size_of list.now }
 {
-    for place in 0..list.len() {
+    for place in from..list.len() {
         sizes[place] = list[place].size();
     }
 }

@@ -8,6 +8,8 @@ mod chains;
 #[cfg(test)]
 mod engine;
 #[cfg(test)]
+mod facts;
+#[cfg(test)]
 mod hitting;
 #[cfg(test)]
 mod inferences;

@@ -23,6 +23,16 @@ fn all_slots_are_a_set(rt: HostRuntime) {
     assert!(rt; usize::from(all.size()) == SLOTS && all.without(LAST).size() == LAST);
 }
 
+#[test]
+fn slots_are_gone_through(rt: HostRuntime) {
+    let set = Env::empty().with(0).with(63).with(64).with(LAST);
+    assert_eq!(rt; set.next_from(0), Some(0));
+    assert_eq!(rt; set.next_from(1), Some(63));
+    assert_eq!(rt; set.next_from(64), Some(64));
+    assert_eq!(rt; set.next_from(65), Some(LAST));
+    assert!(rt; set.without(LAST).next_from(65).is_none());
+}
+
 // Sets one after another, and what the insertion of each does.
 fn insertions() -> [(Env, Inserted); 4] {
     let one = Env::empty().with(1);

@@ -5,3 +5,5 @@ pub mod Staying
 pub mod Trying
 pub mod Remembering
 pub mod Searching
+pub mod Nearby
+pub mod Adding

@@ -1,3 +1,4 @@
 pub mod Inferences
 pub mod Choices
 pub mod Found
+pub mod Near

@@ -1,7 +1,7 @@
 // What known words at the ports of an instance say.
 
 ghost use Rattle.std.specs.Prelude.{◌≡◌, ℕ, ◌<◌, ◌≤◌, ◌↔◌, IsTrue, MatchBool, Some, slice_get};
-ghost use Rattle.circuit_model.specs.Inference.{IsUsed, IsUnknownAt, IsInference, WordsFit};
+ghost use Rattle.circuit_model.specs.Inference.{IsUsed, IsInference, WordsFit};
 ghost use Rattle.circuit_model.specs.Lawful.{IsLawfulInstance};
 ghost use Rattle.component_models.specs.Asking.{HasOpenPort};
 

@@ -7,7 +7,9 @@ mod choices;
 mod components;
 mod consequences;
 mod inferred;
+mod near;
 mod search;
 
 pub use inferred::Inferred;
+pub use near::{cells_near, cells_of};
 pub use search::{find_made_by, find_uses};

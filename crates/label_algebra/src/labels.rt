@@ -2,7 +2,8 @@
 ghost use Rattle.std.specs.Prelude.{◌≡◌, ◌<◌, ◌↔◌, IsTrue, OnOk, OnErr, IfSome, Some, Ok, []};
 ghost use Rattle.std.specs.Option.{ForSome, option_copied};
 ghost use Rattle.environment_sets.specs.Sets.{◌⊆◌};
-ghost use Rattle.environment_sets.specs.Members.{members, HasMember};
+ghost use Rattle.environment_sets.specs.Lists.{AreDistinct};
+ghost use Rattle.environment_sets.specs.Members.{members, sets, HasMember};
 ghost use Rattle.environment_sets.specs.Families.{IsCovered, IsAntichain, Adds, Drops, AreInside};
 ghost use Rattle.environment_sets.specs.Orders.{ListsAll, IsOrder};
 ghost use Rattle.environment_sets.specs.Walks.{GivesNextEnv, envs_left};
@@ -70,7 +71,8 @@ impl Label {
 
     /// The members, in no order that is told.
     pub fn members(&self) -> &[Env]
-        ensures { result.now ≡ self.now }
+        ensures all { result.now ≡ self.now }
+        ensures once { AreDistinct (sets self.now) }
     {
         self.antichain.members()
     }

@@ -17,33 +17,33 @@ use Rattle.environment_sets.specs.Families.{AreInside}
 use Rattle.environment_sets.specs.Walks.{GivesNext}
 use Rattle.inference_search.specs.declared.inferred.Inferred.{Inferred}
 use Rattle.assumption_slots.specs.Slots.{stock}
-use Rattle.label_engine.specs.declared.node.Node.{Node}
-use Rattle.label_engine.specs.declared.node.Nodes.{Nodes}
+use Rattle.labelled_nodes.specs.declared.node.Node.{Node}
 use Rattle.label_engine.specs.Engine.{Kept, Seen, label_of, label_at, kept_of}
-use Rattle.label_engine.specs.Nodes.{KeptIn, label_in}
+use Rattle.labelled_nodes.specs.Nodes.{Labelled, KeptIn, label_in}
 use Rattle.label_engine.specs.Update.{AreUpToDate}
 use Rattle.label_engine.proofs.Masks.{label_within, nogood_within, next_alike}
-use Rattle.label_engine.specs.Questions.{GivesNextNumber, HasInside, HasLabel, ArePairs}
+use Rattle.label_engine.specs.Questions.{GivesNextNumber, HasInside, HasLabel}
+use Rattle.labelled_nodes.specs.Counted.{ArePairs}
 use Rattle.label_engine.proofs.Kept.{label_of_nodes}
 use Rattle.label_engine.proofs.Values.{next_number_alike}
 
-abbrev pub seen : List (Option Assumption) → Nodes → Seen
-seen slots labels = record { slots = slots; kept = kept_of labels.list.items; nogoods = labels.nogoods }
+abbrev pub seen : List (Option Assumption) → Labelled → Seen
+seen slots labels = record { slots = slots; kept = kept_of labels.list; nogoods = labels.nogoods }
 
 abbrev pub IsExact : Seen → Type 0
 IsExact e = AreExact (stock e.slots) (label_at e) (HasMember e.nogoods)
 
 -- what is settled is exact
-pub is_exact : (slots : List (Option Assumption)) (labels : Nodes) (recorded : List Inferred) → AreUpToDate (stock slots) labels recorded → (e : Seen) → seen slots labels ≡ e → IsExact e
+pub is_exact : (slots : List (Option Assumption)) (labels : Labelled) (recorded : List Inferred) → AreUpToDate (stock slots) labels recorded → (e : Seen) → seen slots labels ≡ e → IsExact e
 is_exact slots labels recorded up_to_date e same =
     let P : (Fact → List Env) → Type 0 = λ label. AreExact (stock slots) (λ f. HasMember (label f)) (HasMember labels.nogoods) in
-    let nodes : List Node = labels.list.items in
+    let nodes : List Node = labels.list in
     let label : label_of (kept_of nodes) ≡ label_in nodes = fun_ext (λ f. label_of_nodes nodes up_to_date.once f) in
     subst IsExact same (subst P (sym label) (settled_is.exact (stock slots) (λ f. KeptIn labels (Some f)) (KeptIn labels None) up_to_date.settled))
 
 -- the label of a fact that was met, or not
-pub label_is : (slots : List (Option Assumption)) (labels : Nodes) (recorded : List Inferred) → AreUpToDate (stock slots) labels recorded → (e : Seen) → seen slots labels ≡ e → (f : Fact) → label_in labels.list.items f ≡ label_of e.kept f
-label_is slots labels recorded up_to_date e same f = sym (label_of_nodes labels.list.items up_to_date.once f) ∙ ap (λ (s : Seen). label_of s.kept f) same
+pub label_is : (slots : List (Option Assumption)) (labels : Labelled) (recorded : List Inferred) → AreUpToDate (stock slots) labels recorded → (e : Seen) → seen slots labels ≡ e → (f : Fact) → label_in labels.list f ≡ label_of e.kept f
+label_is slots labels recorded up_to_date e same f = sym (label_of_nodes labels.list up_to_date.once f) ∙ ap (λ (s : Seen). label_of s.kept f) same
 
 module _ (e : Seen) (exact : IsExact e) (M : Set ℕ) where
   pub label_inside : (f : Fact) (E : Set ℕ) → E ⊆ M → label_at e f E → IsInLabel (within M (stock e.slots)) f E

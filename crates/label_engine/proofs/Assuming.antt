@@ -21,11 +21,11 @@ use Rattle.propagation.proofs.Start.{NoItem, NoArrival, start_reading, start_par
 use Rattle.propagation.proofs.Entry.{leads_more, sound_more}
 use Rattle.propagation.proofs.Unions.{leads_on}
 use Rattle.propagation.proofs.Whole as whole
-use Rattle.label_engine.specs.declared.node.Node.{Node}
-use Rattle.label_engine.specs.declared.node.Insertion.{Insertion}
+use Rattle.labelled_nodes.specs.declared.node.Node.{Node}
+use Rattle.label_engine.specs.declared.insertion.Insertion.{Insertion}
 use Rattle.label_engine.specs.declared.update.Pending.{Pending}
 use Rattle.label_engine.specs.declared.update.Update.{Update}
-use Rattle.label_engine.specs.Nodes.{facts_of, label_in, KeptIn}
+use Rattle.labelled_nodes.specs.Nodes.{facts_of, label_in, KeptIn}
 use Rattle.label_engine.specs.Update.{before, DueIn, DueBy, IsAtHand, HasCome, HasComeBy, Holds, IsAtRest, some_fact, goes_from_none, due_with, item_at, items_with, items_from}
 use Rattle.inference_search.specs.declared.inferred.Inferred.{Inferred}
 use Rattle.assumption_slots.specs.Slots.{stock}
@@ -148,7 +148,7 @@ module _ (slots : List (Option Assumption)) (w : Update) (rest : IsAtRest (befor
   S = before slots w.slot
 
   abbrev Met : Fact → Type 0
-  Met = IsIn (facts_of w.nodes.list.items)
+  Met = IsIn (facts_of w.nodes.list)
 
   abbrev Old : RecordedInference → Type 0
   Old = RecordedIn w.recorded
@@ -207,12 +207,12 @@ module _ (slots : List (Option Assumption)) (w : Update) (rest : IsAtRest (befor
     reading_begins dues e = rw (e, rest.none_due, rest.none_at_hand, rest.nothing_waits) first_due
 
   -- a component: its inferences are recorded, and what they lead to is due or at hand
-  module _ (part : List Instance) (works : stock slots w.slot ≡ Some (Part part)) (all found : List Inferred) (made : AreMadeBy slots (facts_of w.nodes.list.items) w.slot all) (needed : AreNeeded w.recorded all found) (New : List Inferred) (also : AreAlso found w.recorded New) where
+  module _ (part : List Instance) (works : stock slots w.slot ≡ Some (Part part)) (all found : List Inferred) (made : AreMadeBy slots (facts_of w.nodes.list) w.slot all) (needed : AreNeeded w.recorded all found) (New : List Inferred) (also : AreAlso found w.recorded New) where
     abbrev Dues : List Insertion
     Dues = map (due_with env) (filter goes_from_none found)
 
     abbrev Items : List Pending
-    Items = items_from w.nodes.list.items found
+    Items = items_from w.nodes.list found
 
     front : (j : RecordedInference) → Old j → RecordedIn New j
     front j r = (r.0, (also r.0).1 (inl r.1), r.2)
@@ -254,16 +254,16 @@ module _ (slots : List (Option Assumption)) (w : Update) (rest : IsAtRest (befor
 
     waiting : IsWaitingSound (stock slots) (RecordedIn New) (IsAtHand Items)
     waiting = record {
-      inference = λ j f E x. (x.0.inferred, (also x.0.inferred).1 (inr (of_items w.nodes.list.items found x.0 x.1).found), x.2);
+      inference = λ j f E x. (x.0.inferred, (also x.0.inferred).1 (inr (of_items w.nodes.list found x.0 x.1).found), x.2);
       antecedent = λ j f E x.
-          let it : IsItemFrom w.nodes.list.items found x.0 = of_items w.nodes.list.items found x.0 x.1 in
+          let it : IsItemFrom w.nodes.list found x.0 = of_items w.nodes.list found x.0 x.1 in
           let P : RecordedInference → Type 0 = λ i. IsIn i.from f in
           subst P x.2 (subst (IsIn (facts x.0.inferred.first x.0.inferred.second)) x.3 (some_is_of x.0.inferred.first x.0.inferred.second x.0.at it.at_fact));
-      environment = λ j f E x. subst (IsEnvironment (stock slots)) x.4 (sound_now.environments (Some x.0.at) (members x.0.env) (of_items w.nodes.list.items found x.0 x.1).kept);
+      environment = λ j f E x. subst (IsEnvironment (stock slots)) x.4 (sound_now.environments (Some x.0.at) (members x.0.env) (of_items w.nodes.list found x.0 x.1).kept);
       sound = λ j f E x.
           let P : Set ℕ → Type 0 = λ F. Has (stock slots) f F in
           let Q : Fact → Type 0 = λ g. Has (stock slots) g (members x.0.env) in
-          subst P x.4 (subst Q x.3 (sound_now.sound (Some x.0.at) (members x.0.env) (of_items w.nodes.list.items found x.0 x.1).kept));
+          subst P x.4 (subst Q x.3 (sound_now.sound (Some x.0.at) (members x.0.env) (of_items w.nodes.list found x.0 x.1).kept));
     }
 
     -- what is due at once: the target of an inference from no fact
@@ -310,7 +310,7 @@ module _ (slots : List (Option Assumption)) (w : Update) (rest : IsAtRest (befor
 
       is_there : (f : Fact) (m : Set ℕ) → some_fact i ≡ Some f → KeptIn w.nodes (Some f) m → IsAtHand Items (inference i) f m
       is_there f m at k =
-          let x : (x : Pending) × IsIn Items x × (x.inferred ≡ i) × (x.at ≡ f) × (members x.env ≡ m) = in_items w.nodes.list.items found i f m of_found at k in
+          let x : (x : Pending) × IsIn Items x × (x.inferred ≡ i) × (x.at ≡ f) × (members x.env ≡ m) = in_items w.nodes.list found i f m of_found at k in
           (x.0, x.1, ap inference x.2, x.3, x.4)
 
       seen_to : (a b : Option Fact) → i.first ≡ a → i.second ≡ b → (ms : List (Set ℕ)) → AreChosen (KeptIn w.nodes) E (facts a b) ms → IsSeenTo (facts a b) ms
@@ -343,7 +343,7 @@ module _ (slots : List (Option Assumption)) (w : Update) (rest : IsAtRest (befor
     items_reached j g E x =
         let P : Set ℕ → Type 0 = λ F. IsReached (KeptIn w.nodes) (Some g) F in
         let Q : Fact → Type 0 = λ f. IsReached (KeptIn w.nodes) (Some f) (members x.0.env) in
-        subst P x.4 (subst Q x.3 (inl (members x.0.env, (of_items w.nodes.list.items found x.0 x.1).kept, λ k h. h)))
+        subst P x.4 (subst Q x.3 (inl (members x.0.env, (of_items w.nodes.list found x.0 x.1).kept, λ k h. h)))
 
     all_sourced : AreSourced (stock slots) (KeptIn w.nodes) (DueBy Dues) (IsAtHand Items) (HasCome []) (HasComeBy [])
     all_sourced = record { due = due_sourced; at_hand_reached = items_reached; came_reached = λ g E h. absurd h.1; came_sourced = λ k g E h. absurd h.1 }

@@ -7,11 +7,10 @@ use Rattle.environment_sets.specs.Members.{members, HasMember}
 use Rattle.environment_sets.specs.Families.{IsCovered}
 use Rattle.antichains.specs.Completed.{Complete}
 use Rattle.propagation.specs.Propagating.{AgreeWithout}
-use Rattle.label_engine.specs.declared.node.Insertion.{Insertion}
-use Rattle.label_engine.specs.declared.node.Nodes.{Nodes}
+use Rattle.label_engine.specs.declared.insertion.Insertion.{Insertion}
 use Rattle.label_engine.specs.declared.update.Completing.{Completing}
 use Rattle.label_engine.specs.declared.update.Pending.{Pending}
-use Rattle.label_engine.specs.Nodes.{KeptIn}
+use Rattle.labelled_nodes.specs.Nodes.{Labelled, KeptIn}
 use Rattle.label_engine.specs.Update.{made_by, BeginsUnions, IsCompleting, StaysCompleting}
 
 -- a union with an environment that has one of the slots contains a nogood
@@ -32,12 +31,12 @@ completed_union item nogoods slots E begun d begins joined complete (n, in_slots
     )
 
 -- a nogood that lacks the slot stays where the two keep the same without it
-pub stays_completing : (slot now : ℕ) (old new : Nodes) (c : Completing) → AgreeWithout slot (KeptIn old) (KeptIn new) → now ≡ slot → StaysCompleting slot old c → StaysCompleting now new c
+pub stays_completing : (slot now : ℕ) (old new : Labelled) (c : Completing) → AgreeWithout slot (KeptIn old) (KeptIn new) → now ≡ slot → StaysCompleting slot old c → StaysCompleting now new c
 stays_completing slot now old new c agree same stays =
     subst (λ (s : ℕ). StaysCompleting s new c) (sym same) (λ n h.
     let found = stays n h in
     let lacks = found.1.1 in
     (found.0, ((agree None found.0 lacks).0 found.1.0, lacks), found.2))
 
-pub completing_now : (slot : ℕ) (nodes : Nodes) (c : Completing) → StaysCompleting slot nodes c → IsCompleting nodes c
+pub completing_now : (slot : ℕ) (nodes : Labelled) (c : Completing) → StaysCompleting slot nodes c → IsCompleting nodes c
 completing_now slot nodes c stays n h = let found = stays n h in (found.0, found.1.0, found.2)

@@ -14,11 +14,10 @@ use Rattle.environment_sets.specs.Lists.{IsIn}
 use Rattle.environment_sets.proofs.Slots.{slots_are_below}
 use Rattle.environment_sets.proofs.Within.{within_holds, holds_within}
 use Rattle.propagation.specs.Propagating.{Target, IsReached}
-use Rattle.label_engine.specs.declared.node.Node.{Node}
-use Rattle.label_engine.specs.declared.node.Nodes.{Nodes}
-use Rattle.label_engine.specs.Nodes.{is_same, facts_of, envs_of, label_in, KeptIn, covers, reaches}
+use Rattle.labelled_nodes.specs.declared.node.Node.{Node}
+use Rattle.labelled_nodes.specs.Nodes.{Labelled, is_same, facts_of, envs_of, label_in, KeptIn, covers, reaches}
 use Rattle.label_engine.specs.Update.{is_same_target}
-use Rattle.label_engine.proofs.Labelled.{is_at, same_fact, fact_same, fact_same_of}
+use Rattle.labelled_nodes.proofs.Labelled.{is_at, same_fact, fact_same, fact_same_of}
 
 pub same_target : (t s : Target) → IsTrue (is_same_target t s) → t ≡ s
 same_target None None h = refl
@@ -40,17 +39,17 @@ is_covers_of es E c =
     let e : (e : Env) × IsIn es e × (members e ≡ c.0) = IsIn-map members es c.0 c.1 in
     list_any-IsIn (λ x. is_within SLOTS (members x) E) es e.0 e.1 (holds_within SLOTS (members e.0) E (let P : Set ℕ → Type 0 = λ F. F ⊆ E in subst P (sym e.2) c.2))
 
-pub reached_is : (labels : Nodes) (t : Target) (E : Set ℕ) → IsTrue (reaches labels t E) → IsReached (KeptIn labels) t E
+pub reached_is : (labels : Labelled) (t : Target) (E : Set ℕ) → IsTrue (reaches labels t E) → IsReached (KeptIn labels) t E
 reached_is labels None E h = inl (covers_is labels.nogoods E h)
-reached_is labels (Some f) E h = elim (or_cases _ _ h) [ inl a ↦ inl (covers_is (label_in labels.list.items f) E a) | inr b ↦ inr (covers_is labels.nogoods E b) ]
+reached_is labels (Some f) E h = elim (or_cases _ _ h) [ inl a ↦ inl (covers_is (label_in labels.list f) E a) | inr b ↦ inr (covers_is labels.nogoods E b) ]
 
-pub is_reached_of : (labels : Nodes) (t : Target) (E : Set ℕ) → IsReached (KeptIn labels) t E → IsTrue (reaches labels t E)
+pub is_reached_of : (labels : Labelled) (t : Target) (E : Set ℕ) → IsReached (KeptIn labels) t E → IsTrue (reaches labels t E)
 is_reached_of labels None E (inl c) = is_covers_of labels.nogoods E c
 is_reached_of labels None E (inr c) = is_covers_of labels.nogoods E c
-is_reached_of labels (Some f) E (inl c) = or_left _ _ (is_covers_of (label_in labels.list.items f) E c)
+is_reached_of labels (Some f) E (inl c) = or_left _ _ (is_covers_of (label_in labels.list f) E c)
 is_reached_of labels (Some f) E (inr c) = or_right _ _ (is_covers_of labels.nogoods E c)
 
-pub not_reached_is : (labels : Nodes) (t : Target) (E : Set ℕ) → (IsReached (KeptIn labels) t E → ⊥) → IsFalse (reaches labels t E)
+pub not_reached_is : (labels : Labelled) (t : Target) (E : Set ℕ) → (IsReached (KeptIn labels) t E → ⊥) → IsFalse (reaches labels t E)
 not_reached_is labels t E out =
     elim (reaches labels t E) as (λ b. reaches labels t E ≡ b → IsFalse b) [
       | true ↦ λ is. absurd (out (reached_is labels t E is))
@@ -58,7 +57,7 @@ not_reached_is labels t E out =
     ] refl
 
 -- the same labels and nogoods are the same family
-module _ (old new : Nodes) (labels : (f : Fact) → label_in new.list.items f ≡ label_in old.list.items f) (nogoods : new.nogoods ≡ old.nogoods) where
+module _ (old new : Labelled) (labels : (f : Fact) → label_in new.list f ≡ label_in old.list f) (nogoods : new.nogoods ≡ old.nogoods) where
   pub same_family : KeptIn new ≡ KeptIn old
   same_family = fun_ext (λ t. fun_ext (λ E. at t E))
     where
@@ -71,7 +70,7 @@ module _ (old new : Nodes) (labels : (f : Fact) → label_in new.list.items f �
     where
       at : (t : Target) (E : Set ℕ) → reaches new t E ≡ reaches old t E
       at None E = ap (λ l. covers l E) nogoods
-      at (Some f) E = ap (λ l. covers l E || covers new.nogoods E) (labels f) ∙ ap (λ l. covers (label_in old.list.items f) E || covers l E) nogoods
+      at (Some f) E = ap (λ l. covers l E || covers new.nogoods E) (labels f) ∙ ap (λ l. covers (label_in old.list f) E || covers l E) nogoods
 
 -- a fact that is met has no environment yet
 pub label_in-met : (nodes : List Node) (f g : Fact) → label_in (nodes ++ record { fact = f; label = [] } ∷ []) g ≡ label_in nodes g

@@ -17,21 +17,22 @@ use Rattle.environment_sets.specs.Members.{members, HasMember}
 use Rattle.environment_sets.specs.Lists.{IsIn, AreDistinct}
 use Rattle.environment_sets.specs.Families.{IsCovered, Drops}
 use Rattle.environment_sets.proofs.Listings.{IsIn-filter}
-use Rattle.environment_sets.proofs.Membership.{IsIn-map, map-IsIn}
+use Rattle.environment_sets.proofs.Membership.{map-IsIn}
 use Rattle.propagation.specs.Propagating.{Target, Family, RecordedInference, IsMaker, Leads, All, AreRecorded, HasInference, IsEither}
 use Rattle.propagation.proofs.Entry.{has_in_part}
 use Rattle.inference_search.specs.declared.inferred.Inferred.{Inferred}
 use Rattle.inference_search.specs.Inferences.{RecordedIn}
 use Rattle.assumption_slots.specs.Slots.{stock}
-use Rattle.label_engine.specs.declared.node.Node.{Node}
+use Rattle.labelled_nodes.specs.declared.node.Node.{Node}
 use Rattle.label_engine.specs.declared.update.Update.{Update}
-use Rattle.label_engine.specs.Nodes.{is_same, facts_of, envs_of, label_in, KeptIn, has_any, is_supported}
+use Rattle.labelled_nodes.specs.Nodes.{is_same, facts_of, envs_of, label_in, KeptIn, has_any, is_supported}
 use Rattle.label_engine.specs.Update.{IsForgotten, HasForgotten, IsAtRest}
 use Rattle.recorded_inferences.specs.Recorded.{GoesFrom}
 use Rattle.label_engine.specs.Engine.{Seen, label_of, label_at, kept_of, Forgets}
 use Rattle.label_engine.proofs.Asked.{seen}
 use Rattle.label_engine.proofs.Kept.{label_of_nodes}
-use Rattle.label_engine.proofs.Labelled.{is_at, same_fact, fact_same, fact_same_of, dropped_label, dropped_facts}
+use Rattle.labelled_nodes.proofs.Supported.{distinct_left, none_supports}
+use Rattle.labelled_nodes.proofs.Labelled.{is_at, same_fact, fact_same, fact_same_of, dropped_label, dropped_facts}
 use Rattle.label_engine.proofs.Remembering.{set_elsewhere}
 
 -- a set without the slot
@@ -145,23 +146,6 @@ label_unmet (n ∷ nodes) f out =
       | false ↦ λ _. label_unmet nodes f (λ h. out (inr h))
     ] refl
 
-facts_fewer : (nodes : List Node) (f : Fact) → IsIn (facts_of (filter is_supported nodes)) f → IsIn (facts_of nodes) f
-facts_fewer nodes f h =
-    let n : (n : Node) × IsIn (filter is_supported nodes) n × (n.fact ≡ f) = IsIn-map (λ (x : Node). x.fact) (filter is_supported nodes) f h in
-    let there : IsIn nodes n.0 × IsTrue (is_supported n.0) = IsIn-filter is_supported nodes n.0 n.1 in
-    subst (IsIn (facts_of nodes)) n.2 (map-IsIn (λ (x : Node). x.fact) nodes n.0 there.0)
-
-pub distinct_left : (nodes : List Node) → AreDistinct (facts_of nodes) → AreDistinct (facts_of (filter is_supported nodes))
-distinct_left [] d = tt
-distinct_left (n ∷ nodes) d = elim (is_supported n) as (λ b. AreDistinct (facts_of (cond b (n ∷ filter is_supported nodes) (filter is_supported nodes)))) [
-  | true ↦ ((λ f h. d.0 f (facts_fewer nodes f h)), distinct_left nodes d.1)
-  | false ↦ distinct_left nodes d.1
-]
-
-none_supports : (es : List Env) → IsFalse (has_any es) → es ≡ []
-none_supports [] h = refl
-none_supports (e ∷ es) h = absurd (true≢false h)
-
 label_supported : (nodes : List Node) → AreDistinct (facts_of nodes) → (f : Fact) → label_in (filter is_supported nodes) f ≡ label_in nodes f
 label_supported [] d f = refl
 label_supported (n ∷ nodes) d f =
@@ -215,12 +199,12 @@ member_met (n ∷ nodes) f E h =
     ] refl h
 
 -- the update without the slot
-module _ (old new : Update) (slot : ℕ) (gone : HasForgotten slot old new) (once : AreDistinct (facts_of old.nodes.list.items)) where
+module _ (old new : Update) (slot : ℕ) (gone : HasForgotten slot old new) (once : AreDistinct (facts_of old.nodes.list)) where
   abbrev Old : List Node
-  Old = old.nodes.list.items
+  Old = old.nodes.list
 
   abbrev New : List Node
-  New = new.nodes.list.items
+  New = new.nodes.list
 
   abbrev Left : List Node
   Left = gone.dropped
@@ -322,5 +306,5 @@ module _ (slots : List (Option Assumption)) (slot : ℕ) (old new : Update) (gon
       let P : List Env → List Env → Type 0 = λ xs ys. Drops (HasMember xs) (HasMember ys) (λ E. IsTrue (E slot)) in
       let Q : Seen → Type 0 = λ s. Drops (label_at s f) (label_at (seen freed new.nodes) f) (λ E. IsTrue (E slot)) in
       subst Q e
-      (subst (P (label_of (kept_of old.nodes.list.items) f)) (sym (label_of_nodes new.nodes.list.items rests.up_to_date.once f))
-      (subst (λ (xs : List Env). P xs (label_in new.nodes.list.items f)) (sym (label_of_nodes old.nodes.list.items rest.up_to_date.once f)) (drops_new old new slot gone rest.up_to_date.once (Some f))))
+      (subst (P (label_of (kept_of old.nodes.list) f)) (sym (label_of_nodes new.nodes.list rests.up_to_date.once f))
+      (subst (λ (xs : List Env). P xs (label_in new.nodes.list f)) (sym (label_of_nodes old.nodes.list rest.up_to_date.once f)) (drops_new old new slot gone rest.up_to_date.once (Some f))))

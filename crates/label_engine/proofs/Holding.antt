@@ -18,12 +18,11 @@ use Rattle.propagation.proofs.Steps.{reached_stays, reached_there, IsSourced-map
 use Rattle.propagation.proofs.Sources.{sourced_on}
 use Rattle.std.proofs.lemmas.Bool.Decides.{nat_tests}
 use Rattle.propagation.proofs.Whole as whole
-use Rattle.label_engine.specs.declared.node.Nodes.{Nodes}
-use Rattle.label_engine.specs.declared.node.Insertion.{Insertion}
+use Rattle.label_engine.specs.declared.insertion.Insertion.{Insertion}
 use Rattle.inference_search.specs.declared.inferred.Inferred.{Inferred}
 use Rattle.label_engine.specs.declared.update.Arrival.{Arrival}
 use Rattle.label_engine.specs.declared.update.Pending.{Pending}
-use Rattle.label_engine.specs.Nodes.{facts_of, KeptIn, reaches}
+use Rattle.labelled_nodes.specs.Nodes.{Labelled, facts_of, KeptIn, reaches}
 use Rattle.label_engine.specs.Update.{AreNeeded, AreAlso, DueIn, DueBy, IsAtHand, HasCome, HasComeBy, Holds, ends_in, is_made_at, is_passed, is_next, IsPassed, item_at, items_to, items_at, arrivals_at}
 use Rattle.recorded_inferences.specs.Recorded.{GoesFrom, AreUses}
 use Rattle.assumption_slots.specs.Slots.{stock}
@@ -32,12 +31,12 @@ use Rattle.inference_search.specs.Found.{AreFound}
 use Rattle.label_engine.proofs.Needed.{needed_are}
 use Rattle.label_engine.proofs.Families.{reached_is, is_reached_of, not_reached_is}
 
-module _ (slots : List (Option Assumption)) (slot : ℕ) (labels : Nodes) (recorded : List Inferred) (due : Insertion) (dues : List Insertion) (work : List Pending) (agenda : List Arrival) where
+module _ (slots : List (Option Assumption)) (slot : ℕ) (labels : Labelled) (recorded : List Inferred) (due : Insertion) (dues : List Insertion) (work : List Pending) (agenda : List Arrival) where
   abbrev Before : Type 0
   Before = Holds slots slot labels recorded (due ∷ dues) work agenda
 
   abbrev Met : List Fact
-  Met = facts_of labels.list.items
+  Met = facts_of labels.list
 
   rest : (s : Target) (E : Set ℕ) → DueIn (due ∷ dues) s E → DueIn dues s E ⊎ ((s ≡ due.target) × (E ≡ members due.env))
   rest s E (k, inl e, t, m) = inr (sym t ∙ sym (ap (λ (x : Insertion). x.target) e), sym m ∙ sym (ap (λ (x : Insertion). members x.env) e))
@@ -83,7 +82,7 @@ module _ (slots : List (Option Assumption)) (slot : ℕ) (labels : Nodes) (recor
       split g i = elim (IsIn-append Met (f ∷ []) g i) [ inl a ↦ inl a | inr l ↦ elim l [ inl e ↦ inr (sym e) | inr bad ↦ absurd bad ] ]
 
   module _
-      (was : Before) (not_reached : IsReached (KeptIn labels) due.target (members due.env) → ⊥) (were_met : (f : Fact) → due.target ≡ Some f → IsIn Met f) (after : Nodes)
+      (was : Before) (not_reached : IsReached (KeptIn labels) due.target (members due.env) → ⊥) (were_met : (f : Fact) → due.target ≡ Some f → IsIn Met f) (after : Labelled)
       (put : IsPut due.target (members due.env) (KeptIn labels) (KeptIn after))
     where
       abbrev Arrivals : List Arrival
@@ -208,7 +207,7 @@ module _ (recorded uses : List Inferred) (f : Fact) (e : Env) (are : AreUses rec
         at_slot None h = absurd (true≢false (sym h))
         at_slot (Some n) h = let same : n ≡ k = grind (arith, nat_tests) in ap (λ (x : ℕ). Some x) same
 
-    module _ (slots : List (Option Assumption)) (slot : ℕ) (labels : Nodes) (dues : List Insertion) (work : List Pending) (agenda : List Arrival) (source : Option ℕ) (only_lone : IfSome passed (IsPassed slots source)) where
+    module _ (slots : List (Option Assumption)) (slot : ℕ) (labels : Labelled) (dues : List Insertion) (work : List Pending) (agenda : List Arrival) (source : Option ℕ) (only_lone : IfSome passed (IsPassed slots source)) where
       abbrev Taken : Arrival
       Taken = record { fact = f; env = e; source = source }
 
@@ -255,7 +254,7 @@ module _ (recorded uses : List Inferred) (f : Fact) (e : Env) (are : AreUses rec
         pub holds_brought : Holds slots slot labels recorded dues (work ++ Items) agenda
         holds_brought = record {
           propagating =
-              whole.brought (stock slots) slot (IsIn (facts_of labels.list.items)) (KeptIn labels) (RecordedIn recorded) (DueIn dues) (IsAtHand work) (HasCome (Taken ∷ agenda)) was.propagating
+              whole.brought (stock slots) slot (IsIn (facts_of labels.list)) (KeptIn labels) (RecordedIn recorded) (DueIn dues) (IsAtHand work) (HasCome (Taken ∷ agenda)) was.propagating
               (IsAtHand (work ++ Items)) (HasCome agenda) f (members e) (Taken, inl refl, refl, refl) left
               (λ g m c. (c.0, inr c.1, c.2, c.3)) (λ j g m w. (w.0, IsIn-left work Items w.0 w.1, w.2, w.3, w.4))
               at_hand_or_over items;

@@ -9,10 +9,10 @@ use Rattle.environment_sets.specs.Members.{members, HasMember}
 use Rattle.environment_sets.specs.Lists.{IsIn, AreDistinct}
 use Rattle.environment_sets.proofs.Listings.{IsIn-filter, IsIn-kept}
 use Rattle.environment_sets.proofs.Membership.{IsIn-append, IsIn-left, IsIn-right, IsIn-map, map-IsIn}
-use Rattle.label_engine.specs.declared.node.Node.{Node}
-use Rattle.label_engine.specs.Nodes.{is_same, facts_of, envs_of, label_in}
+use Rattle.labelled_nodes.specs.declared.node.Node.{Node}
+use Rattle.labelled_nodes.specs.Nodes.{is_same, facts_of, envs_of, label_in}
 use Rattle.label_engine.specs.Engine.{Kept, label_of, kept_at, kept_of}
-use Rattle.label_engine.proofs.Labelled.{is_at, same_fact, fact_same}
+use Rattle.labelled_nodes.proofs.Labelled.{is_at, same_fact, fact_same}
 
 abbrev with_fact : Fact → Env → Kept
 with_fact f e = record { fact = f; env = e }

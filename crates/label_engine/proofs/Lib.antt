@@ -1,7 +1,4 @@
-pub mod Labelled
 pub mod Kept
-pub mod Puts
-pub mod Changed
 pub mod Families
 pub mod Picks
 pub mod Needed
@@ -19,4 +16,3 @@ pub mod TakingBack
 pub mod Masks
 pub mod Asked
 pub mod Values
-pub mod Counts

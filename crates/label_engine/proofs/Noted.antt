@@ -14,9 +14,9 @@ use Rattle.inference_search.specs.declared.inferred.Inferred.{Inferred}
 use Rattle.inference_search.specs.Inferences.{facts, inference, IsOnce}
 use Rattle.inference_search.specs.Found.{AreFound}
 use Rattle.recorded_inferences.specs.Recorded.{GoesFrom, AreSame, AreWith, AreWithout}
-use Rattle.label_engine.specs.declared.node.Node.{Node}
+use Rattle.labelled_nodes.specs.declared.node.Node.{Node}
 use Rattle.label_engine.specs.declared.update.Update.{Update}
-use Rattle.label_engine.specs.Nodes.{facts_of, is_supported}
+use Rattle.labelled_nodes.specs.Nodes.{facts_of, is_supported}
 use Rattle.label_engine.specs.Update.{CanBeRecorded, AreAlso, HasSomeOf, AreNeeded, AllLead, MetStay, HasSomeUses, GoesFromUnsupported, AgreesWith, Survives}
 
 -- no more is recorded than was
@@ -102,8 +102,8 @@ pub still_lead : (slots : List (Option Assumption)) (more old new : List Inferre
 still_lead slots more old new some lead all j r = elim (some.only r.0 r.1) [ inl o ↦ all j (r.0, o, r.2) | inr m ↦ lead j (r.0, m, r.2) ]
 
 -- what uses the fact, which was not met, is recorded no more
-module _ (slots : List (Option Assumption)) (old mid : Update) (f : Fact) (s : Survives slots old mid) (unmet : IsIn (facts_of old.nodes.list.items) f → ⊥) (recorded : List Inferred) (without : AreWithout (GoesFrom f) mid.recorded recorded) where
-  pub stays_without : MetStay old.nodes.list.items old.recorded recorded
+module _ (slots : List (Option Assumption)) (old mid : Update) (f : Fact) (s : Survives slots old mid) (unmet : IsIn (facts_of old.nodes.list) f → ⊥) (recorded : List Inferred) (without : AreWithout (GoesFrom f) mid.recorded recorded) where
+  pub stays_without : MetStay old.nodes.list old.recorded recorded
   stays_without i there from = (without i).1 (s.stay i there from, λ uses. unmet (from f uses))
 
   pub leads_without : AllLead slots old.recorded → AllLead slots recorded
@@ -168,7 +168,7 @@ pub all_dropped : (nodes : List Node) (n : ℕ) (old new : List Inferred) → le
 all_dropped nodes n old new long without = subst (λ (l : List Node). AreWithout (GoesFromUnsupported l) old new) (take_all n nodes long) without
 
 -- more is recorded, and labels and all else are as before
-pub survives_noted : (slots : List (Option Assumption)) (old new : Update) (more : List Inferred) → AgreesWith old new → new.slot ≡ old.slot → HasSomeOf more old.recorded new.recorded → AllLead slots more → ((f : Fact) → IsIn (facts_of old.nodes.list.items) f → IsIn (facts_of new.nodes.list.items) f) → (AreDistinct (facts_of old.nodes.list.items) → AreDistinct (facts_of new.nodes.list.items)) → Survives slots old new
+pub survives_noted : (slots : List (Option Assumption)) (old new : Update) (more : List Inferred) → AgreesWith old new → new.slot ≡ old.slot → HasSomeOf more old.recorded new.recorded → AllLead slots more → ((f : Fact) → IsIn (facts_of old.nodes.list) f → IsIn (facts_of new.nodes.list) f) → (AreDistinct (facts_of old.nodes.list) → AreDistinct (facts_of new.nodes.list)) → Survives slots old new
 survives_noted slots old new more agrees slot some lead met once = record {
   agrees = agrees;
   same_slot = slot;

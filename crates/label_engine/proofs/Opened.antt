@@ -7,10 +7,9 @@ use Rattle.environment_sets.specs.Sets.{Set}
 use Rattle.environment_sets.specs.Members.{HasMember}
 use Rattle.environment_sets.specs.Lists.{IsIn, AreDistinct}
 use Rattle.propagation.specs.Propagating.{Target, RecordedInference}
-use Rattle.label_engine.specs.declared.node.Node.{Node}
-use Rattle.label_engine.specs.declared.node.Nodes.{Nodes}
+use Rattle.labelled_nodes.specs.declared.node.Node.{Node}
 use Rattle.inference_search.specs.declared.inferred.Inferred.{Inferred}
-use Rattle.label_engine.specs.Nodes.{facts_of, label_in, KeptIn}
+use Rattle.labelled_nodes.specs.Nodes.{Labelled, facts_of, label_in, KeptIn}
 use Rattle.label_engine.specs.Update.{AreUpToDate}
 use Rattle.assumption_slots.specs.Slots.{stock}
 use Rattle.inference_search.specs.Inferences.{RecordedIn}
@@ -19,12 +18,12 @@ module _ (slots : List (Option Assumption)) (free : (k : ℕ) → stock slots k 
   nothing : (k : ℕ) (a : Assumption) → stock slots k ≡ Some a → ⊥
   nothing k a e = let bad : None ≡ Some a = sym (free k) ∙ e in cc
 
-  module _ (labels : Nodes) (recorded : List Inferred) (nodes : labels.list.items ≡ []) (nogoods : labels.nogoods ≡ []) (none : recorded ≡ []) where
+  module _ (labels : Labelled) (recorded : List Inferred) (nodes : labels.list ≡ []) (nogoods : labels.nogoods ≡ []) (none : recorded ≡ []) where
     none_kept : (t : Target) (E : Set ℕ) → KeptIn labels t E → ⊥
     none_kept None E k = let P : List Env → Type 0 = λ l. HasMember l E in subst P nogoods k
     none_kept (Some f) E k = let P : List Node → Type 0 = λ l. HasMember (label_in l f) E in subst P nodes k
 
-    none_met : (f : Fact) → IsIn (facts_of labels.list.items) f → ⊥
+    none_met : (f : Fact) → IsIn (facts_of labels.list) f → ⊥
     none_met f h = let P : List Node → Type 0 = λ l. IsIn (facts_of l) f in subst P nodes h
 
     none_recorded : (j : RecordedInference) → RecordedIn recorded j → ⊥

@@ -15,12 +15,11 @@ use Rattle.environment_sets.proofs.Slots.{slots_are_below}
 use Rattle.antichains.proofs.Larger.{as_large}
 use Rattle.propagation.proofs.Unions.{leads_on, has_more, maker_some}
 use Rattle.propagation.proofs.Whole as whole
-use Rattle.label_engine.specs.declared.node.Nodes.{Nodes}
-use Rattle.label_engine.specs.declared.node.Insertion.{Insertion}
+use Rattle.label_engine.specs.declared.insertion.Insertion.{Insertion}
 use Rattle.inference_search.specs.declared.inferred.Inferred.{Inferred}
 use Rattle.label_engine.specs.declared.update.Arrival.{Arrival}
 use Rattle.label_engine.specs.declared.update.Pending.{Pending}
-use Rattle.label_engine.specs.Nodes.{facts_of, KeptIn}
+use Rattle.labelled_nodes.specs.Nodes.{Labelled, facts_of, KeptIn}
 use Rattle.label_engine.specs.Update.{is_same_target, other_fact, made_by, DueIn, DueBy, IsAtHand, HasCome, HasComeBy, Holds, union_of, IsSourceOf, IsUnion, HasUnions}
 use Rattle.assumption_slots.specs.Slots.{stock}
 use Rattle.assumption_slots.proofs.Remembered.{some_within}
@@ -94,7 +93,7 @@ module _ (item : Pending) (A F : Set ℕ) (is : F ≡ union_of item A) where
   in_union_other : A ⊆ F
   in_union_other n h = joined n ∙ or_right ((members item.env ∪ made_by item.inferred.maker) n) (A n) h
 
-module _ (slots : List (Option Assumption)) (slot : ℕ) (labels : Nodes) (recorded : List Inferred) (dues dues' : List Insertion) (work : List Pending) (agenda : List Arrival) (item : Pending)
+module _ (slots : List (Option Assumption)) (slot : ℕ) (labels : Labelled) (recorded : List Inferred) (dues dues' : List Insertion) (work : List Pending) (agenda : List Arrival) (item : Pending)
     (was : Holds slots slot labels recorded dues (item ∷ work) agenda) (u : HasUnions item labels dues dues') where
   abbrev S : Stock ℕ
   S = stock slots
@@ -262,7 +261,7 @@ module _ (slots : List (Option Assumption)) (slot : ℕ) (labels : Nodes) (recor
   pub holds_picked : Holds slots slot labels recorded dues' work agenda
   holds_picked = record {
     propagating =
-        whole.picked S slot (IsIn (facts_of labels.list.items)) (KeptIn labels) (RecordedIn recorded) (DueIn dues) (IsAtHand (item ∷ work)) (HasCome agenda) was.propagating (DueIn dues') (IsAtHand work) It item.at (members item.env)
+        whole.picked S slot (IsIn (facts_of labels.list)) (KeptIn labels) (RecordedIn recorded) (DueIn dues) (IsAtHand (item ∷ work)) (HasCome agenda) was.propagating (DueIn dues') (IsAtHand work) It item.at (members item.env)
         left (λ i g m w. (w.0, inr w.1, w.2, w.3, w.4)) (λ t E k. (k.0, u.stays k.0 k.1, k.2, k.3)) (record { environments = due_environments; sound = due_has })
         (unions item.inferred.first item.inferred.second refl refl);
     sourced =
@@ -271,7 +270,7 @@ module _ (slots : List (Option Assumption)) (slot : ℕ) (labels : Nodes) (recor
   }
 
 -- the item's only fact is the one at which it is at hand
-pub alone : (item : Pending) (labels : Nodes) (old : List Insertion) (d : Insertion) → other_fact item.inferred item.at ≡ None → IsUnion item no_elements d → HasUnions item labels old (old ++ d ∷ [])
+pub alone : (item : Pending) (labels : Labelled) (old : List Insertion) (d : Insertion) → other_fact item.inferred item.at ≡ None → IsUnion item no_elements d → HasUnions item labels old (old ++ d ∷ [])
 alone item labels old d p is = record {
   stays = λ x i. IsIn-left old (d ∷ []) x i;
   alone = λ _. (d, IsIn-right old (d ∷ []) d (inl refl), is);
@@ -287,7 +286,7 @@ alone item labels old d p is = record {
 
 -- the source of what came is below the bound
 pub source_fits :
-    (slots : List (Option Assumption)) (slot : ℕ) (nodes : Nodes) (recorded : List Inferred) (dues : List Insertion) (work : List Pending) (agenda : List Arrival) (arrival : Arrival)
+    (slots : List (Option Assumption)) (slot : ℕ) (nodes : Labelled) (recorded : List Inferred) (dues : List Insertion) (work : List Pending) (agenda : List Arrival) (arrival : Arrival)
     → Holds slots slot nodes recorded dues work (arrival ∷ agenda) → length slots ≡ SLOTS → IfSome arrival.source (λ k. k < SLOTS)
 source_fits slots slot nodes recorded dues work agenda arrival was wide =
     elim arrival.source as (λ m. arrival.source ≡ m → IfSome m (λ k. k < SLOTS)) [
@@ -301,7 +300,7 @@ source_fits slots slot nodes recorded dues work agenda arrival was wide =
 
 -- the maker of what is at hand is below the bound
 pub maker_fits :
-    (slots : List (Option Assumption)) (slot : ℕ) (nodes : Nodes) (recorded : List Inferred) (dues : List Insertion) (work : List Pending) (agenda : List Arrival) (item : Pending)
+    (slots : List (Option Assumption)) (slot : ℕ) (nodes : Labelled) (recorded : List Inferred) (dues : List Insertion) (work : List Pending) (agenda : List Arrival) (item : Pending)
     → Holds slots slot nodes recorded dues (item ∷ work) agenda → length slots ≡ SLOTS → IfSome item.inferred.maker (λ k. k < SLOTS)
 maker_fits slots slot nodes recorded dues work agenda item was wide =
     let It : RecordedInference = inference item.inferred in

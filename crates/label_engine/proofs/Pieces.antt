@@ -14,14 +14,13 @@ use Rattle.propagation.specs.Propagating.{Target, Family, RecordedInference, IsR
 use Rattle.propagation.proofs.Sources.{sourced_on}
 use Rattle.propagation.proofs.Whole as whole
 use Rattle.propagation.specs.Uncovered.{uncovered, TargetFits}
-use Rattle.label_engine.specs.declared.node.Node.{Node}
-use Rattle.label_engine.specs.declared.node.Nodes.{Nodes}
-use Rattle.label_engine.specs.declared.node.Insertion.{Insertion}
+use Rattle.labelled_nodes.specs.declared.node.Node.{Node}
+use Rattle.label_engine.specs.declared.insertion.Insertion.{Insertion}
 use Rattle.inference_search.specs.declared.inferred.Inferred.{Inferred}
 use Rattle.label_engine.specs.declared.update.Arrival.{Arrival}
 use Rattle.label_engine.specs.declared.update.Pending.{Pending}
 use Rattle.label_engine.specs.declared.update.Update.{Update}
-use Rattle.label_engine.specs.Nodes.{facts_of, label_in, KeptIn, reaches}
+use Rattle.labelled_nodes.specs.Nodes.{Labelled, facts_of, label_in, KeptIn, reaches}
 use Rattle.label_engine.specs.Update.{AllLead, Survives, other_fact, DueIn, DueBy, IsAtHand, HasCome, HasComeBy, Propagates, Holds, DueAlso, HasUnions, HasUnionsWith, HasMet, AreKeptAlike, IsPutThere, IsReady, IsAtRest, CarriesOn, AgreesWith}
 use Rattle.assumption_slots.specs.Slots.{stock}
 use Rattle.inference_search.specs.Inferences.{RecordedIn}
@@ -33,7 +32,7 @@ IfOk-map (Ok x) f h = f x h
 IfOk-map (Err e) f h = h
 
 -- the unions with the other_fact's label are all unions
-pub unions_with_other : (item : Pending) (labels : Nodes) (g : Fact) (old new : List Insertion) → other_fact item.inferred item.at ≡ Some g → HasUnionsWith item labels (label_in labels.list.items g) old new → HasUnions item labels old new
+pub unions_with_other : (item : Pending) (labels : Labelled) (g : Fact) (old new : List Insertion) → other_fact item.inferred item.at ≡ Some g → HasUnionsWith item labels (label_in labels.list g) old new → HasUnions item labels old new
 unions_with_other item labels g old new p u = record {
   stays = u.stays;
   alone = λ e. absurd (let bad : Some g ≡ None = sym p ∙ e in cc);
@@ -45,26 +44,26 @@ unions_with_other item labels g old new p u = record {
 }
 
 -- a fact is met, or memory ran out
-module _ {A E : Type 0} (r : Result A E) (old new : Nodes) (f : Fact) (ok : OnOk r (new.list.items ≡ old.list.items ++ record { fact = f; label = [] } ∷ [])) (err : OnErr r (new.list.items ≡ old.list.items)) where
-  pub labels_met : (g : Fact) → label_in new.list.items g ≡ label_in old.list.items g
+module _ {A E : Type 0} (r : Result A E) (old new : Labelled) (f : Fact) (ok : OnOk r (new.list ≡ old.list ++ record { fact = f; label = [] } ∷ [])) (err : OnErr r (new.list ≡ old.list)) where
+  pub labels_met : (g : Fact) → label_in new.list g ≡ label_in old.list g
   labels_met g =
-      elim r as (λ (x : Result A E). OnOk x (new.list.items ≡ old.list.items ++ record { fact = f; label = [] } ∷ []) → OnErr x (new.list.items ≡ old.list.items) → label_in new.list.items g ≡ label_in old.list.items g) [
-        | Ok x ↦ λ o _. ap (λ l. label_in l g) o ∙ label_in-met old.list.items f g
+      elim r as (λ (x : Result A E). OnOk x (new.list ≡ old.list ++ record { fact = f; label = [] } ∷ []) → OnErr x (new.list ≡ old.list) → label_in new.list g ≡ label_in old.list g) [
+        | Ok x ↦ λ o _. ap (λ l. label_in l g) o ∙ label_in-met old.list f g
         | Err e ↦ λ _ o. ap (λ l. label_in l g) o
       ] ok err
 
-  pub facts_met : (g : Fact) → IsIn (facts_of old.list.items) g → IsIn (facts_of new.list.items) g
+  pub facts_met : (g : Fact) → IsIn (facts_of old.list) g → IsIn (facts_of new.list) g
   facts_met g there =
-      elim r as (λ (x : Result A E). OnOk x (new.list.items ≡ old.list.items ++ record { fact = f; label = [] } ∷ []) → OnErr x (new.list.items ≡ old.list.items) → IsIn (facts_of new.list.items) g) [
-        | Ok x ↦ λ o _. subst (λ (l : List Fact). IsIn l g) (sym (ap facts_of o ∙ map-append (λ (n : Node). n.fact) old.list.items (record { fact = f; label = [] } ∷ []))) (IsIn-left (facts_of old.list.items) (f ∷ []) g there)
+      elim r as (λ (x : Result A E). OnOk x (new.list ≡ old.list ++ record { fact = f; label = [] } ∷ []) → OnErr x (new.list ≡ old.list) → IsIn (facts_of new.list) g) [
+        | Ok x ↦ λ o _. subst (λ (l : List Fact). IsIn l g) (sym (ap facts_of o ∙ map-append (λ (n : Node). n.fact) old.list (record { fact = f; label = [] } ∷ []))) (IsIn-left (facts_of old.list) (f ∷ []) g there)
         | Err e ↦ λ _ o. subst (λ (l : List Fact). IsIn l g) (sym (ap facts_of o)) there
       ] ok err
 
   -- no fact comes to have two nodes, where it had none
-  pub once_met : (IsIn (facts_of old.list.items) f → ⊥) → AreDistinct (facts_of old.list.items) → AreDistinct (facts_of new.list.items)
+  pub once_met : (IsIn (facts_of old.list) f → ⊥) → AreDistinct (facts_of old.list) → AreDistinct (facts_of new.list)
   once_met unmet d =
-      elim r as (λ (x : Result A E). OnOk x (new.list.items ≡ old.list.items ++ record { fact = f; label = [] } ∷ []) → OnErr x (new.list.items ≡ old.list.items) → AreDistinct (facts_of new.list.items)) [
-        | Ok x ↦ λ o _. subst AreDistinct (sym (ap facts_of o ∙ map-append (λ (n : Node). n.fact) old.list.items (record { fact = f; label = [] } ∷ []))) (AreDistinct-push (facts_of old.list.items) f d unmet)
+      elim r as (λ (x : Result A E). OnOk x (new.list ≡ old.list ++ record { fact = f; label = [] } ∷ []) → OnErr x (new.list ≡ old.list) → AreDistinct (facts_of new.list)) [
+        | Ok x ↦ λ o _. subst AreDistinct (sym (ap facts_of o ∙ map-append (λ (n : Node). n.fact) old.list (record { fact = f; label = [] } ∷ []))) (AreDistinct-push (facts_of old.list) f d unmet)
         | Err e ↦ λ _ o. subst AreDistinct (sym (ap facts_of o)) d
       ] ok err
 
@@ -78,7 +77,7 @@ survives_same slots w = record {
   stay = λ i there from. there;
   lead = λ all. all;
   met = λ f there. there;
-  once = λ (d : AreDistinct (facts_of w.nodes.list.items)). d;
+  once = λ (d : AreDistinct (facts_of w.nodes.list)). d;
 }
 
 -- one step after another
@@ -95,18 +94,18 @@ survives_on slots a b c first then = record {
   stay = λ i there from. then.stay i (first.stay i there from) (λ f uses. first.met f (from f uses));
   lead = λ all. then.lead (first.lead all);
   met = λ f there. then.met f (first.met f there);
-  once = λ (d : AreDistinct (facts_of a.nodes.list.items)). then.once (first.once d);
+  once = λ (d : AreDistinct (facts_of a.nodes.list)). then.once (first.once d);
 }
 
 -- a change of labels alone
-pub survives_then : (slots : List (Option Assumption)) (a b c : Update) → Survives slots a b → AgreesWith b c → c.slot ≡ b.slot → c.recorded ≡ b.recorded → facts_of c.nodes.list.items ≡ facts_of b.nodes.list.items → Survives slots a c
+pub survives_then : (slots : List (Option Assumption)) (a b c : Update) → Survives slots a b → AgreesWith b c → c.slot ≡ b.slot → c.recorded ≡ b.recorded → facts_of c.nodes.list ≡ facts_of b.nodes.list → Survives slots a c
 survives_then slots a b c first agrees slot recorded met = record {
   agrees = agrees_on a b c first.agrees first.same_slot agrees;
   same_slot = slot ∙ first.same_slot;
   stay = λ i there from. subst (λ (l : List Inferred). IsIn l i) (sym recorded) (first.stay i there from);
   lead = λ all. subst (AllLead slots) (sym recorded) (first.lead all);
   met = λ f there. subst (λ (l : List Fact). IsIn l f) (sym met) (first.met f there);
-  once = λ (d : AreDistinct (facts_of a.nodes.list.items)). subst AreDistinct (sym met) (first.once d);
+  once = λ (d : AreDistinct (facts_of a.nodes.list)). subst AreDistinct (sym met) (first.once d);
 }
 
 -- the last comes first
@@ -134,16 +133,16 @@ module _ (slots : List (Option Assumption)) where
   }
 
   module _ (due : Insertion) where
-    pub ready_now_met : (f : Fact) (old new : Update) → DueAlso slots due old → due.target ≡ Some f → (IsIn (facts_of old.nodes.list.items) f → ⊥) → AreKeptAlike old new → HasMet slots f old new → IsReady slots due old new
+    pub ready_now_met : (f : Fact) (old new : Update) → DueAlso slots due old → due.target ≡ Some f → (IsIn (facts_of old.nodes.list) f → ⊥) → AreKeptAlike old new → HasMet slots f old new → IsReady slots due old new
     ready_now_met f old new was at unmet same e = record {
       due_also =
-          let P : Family → Type 0 = λ K. IsPropagating (stock slots) new.slot (IsIn (facts_of new.nodes.list.items)) K (RecordedIn new.recorded) (DueIn (due ∷ new.due.items)) (IsAtHand new.work.items) (HasCome new.agenda) in
+          let P : Family → Type 0 = λ K. IsPropagating (stock slots) new.slot (IsIn (facts_of new.nodes.list)) K (RecordedIn new.recorded) (DueIn (due ∷ new.due.items)) (IsAtHand new.work.items) (HasCome new.agenda) in
           let Q : Family → Type 0 = λ K. AreSourced (stock slots) K (DueBy (due ∷ new.due.items)) (IsAtHand new.work.items) (HasCome new.agenda) (HasComeBy new.agenda) in
           record {
             propagating = subst P (sym (same_family old.nodes new.nodes same.labels same.nogoods)) (rw (e.slot, e.met, e.due, e.work, e.agenda) (holds_met slots old.slot old.nodes old.recorded due old.due.items old.work.items old.agenda was f unmet e.recorded.found e.recorded.needed new.recorded e.recorded.are_found e.recorded.are_needed e.recorded.recorded));
             sourced = subst Q (sym (same_family old.nodes new.nodes same.labels same.nogoods)) (rw (e.due, e.work, e.agenda) was.sourced);
           };
-      were_met = λ g same_target. rw e.met (let both : Some f ≡ Some g = sym at ∙ same_target in let gf : f ≡ g = cc in subst (IsIn (facts_of old.nodes.list.items ++ f ∷ [])) gf (IsIn-right (facts_of old.nodes.list.items) (f ∷ []) f (inl refl)));
+      were_met = λ g same_target. rw e.met (let both : Some f ≡ Some g = sym at ∙ same_target in let gf : f ≡ g = cc in subst (IsIn (facts_of old.nodes.list ++ f ∷ [])) gf (IsIn-right (facts_of old.nodes.list) (f ∷ []) f (inl refl)));
       labels_same = same.labels;
       nogoods_same = same.nogoods;
       due_same = e.due;
@@ -152,7 +151,7 @@ module _ (slots : List (Option Assumption)) where
       same_slot = e.slot;
     }
 
-    pub ready_met : (old : Update) → DueAlso slots due old → ((f : Fact) → due.target ≡ Some f → IsIn (facts_of old.nodes.list.items) f) → IsReady slots due old old
+    pub ready_met : (old : Update) → DueAlso slots due old → ((f : Fact) → due.target ≡ Some f → IsIn (facts_of old.nodes.list) f) → IsReady slots due old old
     ready_met old was were_met = record {
       due_also = was;
       were_met = were_met;
@@ -189,7 +188,7 @@ module _ (slots : List (Option Assumption)) where
               omega (arith, load_falls (uncovered (reaches new.nodes)) (uncovered (reaches old.nodes)) (length new.agenda) (length old.agenda) less_old few);
         }
 
-  module _ (slot : ℕ) (labels : Nodes) (recorded : List Inferred) where
+  module _ (slot : ℕ) (labels : Labelled) (recorded : List Inferred) where
     same_dues : (xs ys : List Insertion) → ((d : Insertion) → IsIn xs d ↔ IsIn ys d) → (t : Target) (E : Set ℕ) → DueIn xs t E ↔ DueIn ys t E
     same_dues xs ys same t E = ((λ (d : DueIn xs t E). (d.0, (same d.0).0 d.1, d.2, d.3)), (λ (d : DueIn ys t E). (d.0, (same d.0).1 d.1, d.2, d.3)))
 
@@ -207,7 +206,7 @@ module _ (slots : List (Option Assumption)) where
         → ((a : Arrival) → IsIn agenda a ↔ IsIn agenda' a) → Holds slots slot labels recorded dues work agenda → Holds slots slot labels recorded dues' work' agenda'
     reordered dues dues' work work' agenda agenda' d w a was = record {
       propagating =
-          whole.reordered (stock slots) slot (IsIn (facts_of labels.list.items)) (KeptIn labels) (RecordedIn recorded) (DueIn dues) (IsAtHand work) (HasCome agenda) was.propagating (DueIn dues') (IsAtHand work') (HasCome agenda')
+          whole.reordered (stock slots) slot (IsIn (facts_of labels.list)) (KeptIn labels) (RecordedIn recorded) (DueIn dues) (IsAtHand work) (HasCome agenda) was.propagating (DueIn dues') (IsAtHand work') (HasCome agenda')
           (same_dues dues dues' d) (same_items work work' w) (same_arrivals agenda agenda' a);
       sourced =
           sourced_on (stock slots) (KeptIn labels) (KeptIn labels) (DueBy dues) (DueBy dues') (HasComeBy agenda) (HasComeBy agenda') (IsAtHand work) (IsAtHand work') (HasCome agenda) (HasCome agenda') was.sourced
@@ -234,7 +233,7 @@ module _ (slots : List (Option Assumption)) where
 
     -- nothing is due, nothing is at hand and nothing waits
     pub holds_ended : Holds slots slot labels recorded [] [] [] → IsSettled (stock slots) (λ f. KeptIn labels (Some f)) (KeptIn labels None)
-    holds_ended was = whole.ended (stock slots) slot (IsIn (facts_of labels.list.items)) (KeptIn labels) (RecordedIn recorded) (DueIn []) (IsAtHand []) (HasCome []) was.propagating (λ t E k. k.1) (λ i g m w. w.1) (λ g m c. c.1)
+    holds_ended was = whole.ended (stock slots) slot (IsIn (facts_of labels.list)) (KeptIn labels) (RecordedIn recorded) (DueIn []) (IsAtHand []) (HasCome []) was.propagating (λ t E k. k.1) (λ i g m w. w.1) (λ g m c. c.1)
 
 pub taken_item : {X : Type 0} (xs : List X) (i : ℕ) (x : X) → slice_get xs i ≡ Some x → (k : X) → IsIn xs k ↔ IsIn (x ∷ remove xs i) k
 taken_item {X} xs i x at k = (to, from)
@@ -258,7 +257,7 @@ taken_item {X} xs i x at k = (to, from)
     ])
 
 pub at_rest :
-    (slots : List (Option Assumption)) (w : Update) → Propagates slots w → w.due.items ≡ [] → w.work.items ≡ [] → w.agenda ≡ [] → AreDistinct (facts_of w.nodes.list.items)
+    (slots : List (Option Assumption)) (w : Update) → Propagates slots w → w.due.items ≡ [] → w.work.items ≡ [] → w.agenda ≡ [] → AreDistinct (facts_of w.nodes.list)
     → IsAtRest (stock slots) w
 at_rest slots w was none_due none_at_hand nothing_waits once = record {
   up_to_date = record {

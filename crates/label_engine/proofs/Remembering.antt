@@ -11,7 +11,7 @@ use Rattle.environment_sets.specs.Sets.{Set}
 use Rattle.environment_sets.specs.Members.{HasMember}
 use Rattle.label_engine.specs.declared.update.Update.{Update}
 use Rattle.label_engine.specs.Engine.{Seen, label_of, label_at, kept_of, Remembers, IsAsBefore}
-use Rattle.label_engine.specs.Nodes.{label_in}
+use Rattle.labelled_nodes.specs.Nodes.{label_in}
 use Rattle.label_engine.proofs.Kept.{label_of_nodes}
 use Rattle.label_engine.proofs.Asked.{IsExact, seen, is_exact}
 use Rattle.label_engine.specs.Update.{before, AreUpToDate, IsAtRest, IsTakenBack}
@@ -85,8 +85,8 @@ module _ (slots : Slots) (slot : ℕ) (what : Assumption) (free : stock slots sl
       same_label : (f : Fact) (E : Set ℕ) → label_at (seen slots old.nodes) f E ↔ label_at (seen freed new.nodes) f E
       same_label f E =
           let P : List Env → List Env → Type 0 = λ xs ys. HasMember xs E ↔ HasMember ys E in
-          subst (P (label_of (kept_of old.nodes.list.items) f)) (sym (label_of_nodes new.nodes.list.items taken.at_rest.up_to_date.once f))
-          (subst (λ (xs : List Env). P xs (label_in new.nodes.list.items f)) (sym (label_of_nodes old.nodes.list.items kept.up_to_date.once f)) (taken.same (Some f) E))
+          subst (P (label_of (kept_of old.nodes.list) f)) (sym (label_of_nodes new.nodes.list taken.at_rest.up_to_date.once f))
+          (subst (λ (xs : List Env). P xs (label_in new.nodes.list f)) (sym (label_of_nodes old.nodes.list kept.up_to_date.once f)) (taken.same (Some f) E))
 
       pub as_before : (before_it : Seen) → seen slots old.nodes ≡ before_it → IsAsBefore before_it (seen freed new.nodes)
       as_before before_it e =

@@ -13,7 +13,7 @@ use Rattle.propagation.proofs.Entry.{leads_more}
 use Rattle.inference_search.specs.Inferences.{RecordedIn}
 use Rattle.assumption_slots.specs.Slots.{stock}
 use Rattle.label_engine.specs.declared.update.Update.{Update}
-use Rattle.label_engine.specs.Nodes.{facts_of, KeptIn}
+use Rattle.labelled_nodes.specs.Nodes.{facts_of, KeptIn}
 use Rattle.label_engine.specs.Update.{before, AllLead, Survives, IsAtRest, HasForgotten, IsTakenBack}
 use Rattle.label_engine.proofs.Assuming.{lacks, one_more_slot}
 use Rattle.label_engine.proofs.Forgetting.{drops_new, once_new, met_supported, stays_recorded, leads_new, member_met, recorded_without}
@@ -22,7 +22,7 @@ module _ (slots : List (Option Assumption)) (w mid new : Update) (rest : IsAtRes
   abbrev S : Stock ℕ
   S = before slots w.slot
 
-  once_mid : AreDistinct (facts_of mid.nodes.list.items)
+  once_mid : AreDistinct (facts_of mid.nodes.list)
   once_mid = s.once rest.up_to_date.once
 
   kept_lacks : (t : Target) (E : Set ℕ) → KeptIn w.nodes t E → IsFalse (E w.slot)
@@ -48,18 +48,18 @@ module _ (slots : List (Option Assumption)) (w mid new : Update) (rest : IsAtRes
   all_lead : AllLead slots mid.recorded
   all_lead = s.lead (λ j r. leads_more S (stock slots) w.slot (one_more_slot slots w.slot) j.from j.maker j.to (rest.up_to_date.are.leads j r))
 
-  met_before : (f : Fact) → IsIn (facts_of new.nodes.list.items) f → IsIn (facts_of w.nodes.list.items) f
+  met_before : (f : Fact) → IsIn (facts_of new.nodes.list) f → IsIn (facts_of w.nodes.list) f
   met_before f h = let has : (E : Set ℕ) × KeptIn new.nodes (Some f) E = met_supported mid new w.slot gone once_mid f h in rest.up_to_date.were_met f has.0 ((same_left (Some f) has.0).1 has.1)
 
-  stays : (j : RecordedInference) → RecordedIn w.recorded j → (j.maker ≡ Some w.slot → ⊥) → ((f : Fact) → IsIn j.from f → IsIn (facts_of new.nodes.list.items) f) → RecordedIn new.recorded j
+  stays : (j : RecordedInference) → RecordedIn w.recorded j → (j.maker ≡ Some w.slot → ⊥) → ((f : Fact) → IsIn j.from f → IsIn (facts_of new.nodes.list) f) → RecordedIn new.recorded j
   stays j r other all =
-      let P : RecordedInference → Type 0 = λ x. (f : Fact) → IsIn x.from f → IsIn (facts_of new.nodes.list.items) f in
+      let P : RecordedInference → Type 0 = λ x. (f : Fact) → IsIn x.from f → IsIn (facts_of new.nodes.list) f in
       let from = subst P (sym r.2) all in
       (r.0, stays_recorded mid new w.slot gone once_mid r.0 (s.stay r.0 r.1 (λ f uses. met_before f (from f uses))) (λ e. other (sym (ap (λ (x : RecordedInference). x.maker) r.2) ∙ e)) from, r.2)
 
-  are_new : AreRecorded S (IsIn (facts_of new.nodes.list.items)) All (RecordedIn new.recorded)
+  are_new : AreRecorded S (IsIn (facts_of new.nodes.list)) All (RecordedIn new.recorded)
   are_new =
-      recorded_without S S w.slot free (λ k ne. refl) (IsIn (facts_of w.nodes.list.items)) (IsIn (facts_of new.nodes.list.items)) (RecordedIn w.recorded) (RecordedIn new.recorded) met_before
+      recorded_without S S w.slot free (λ k ne. refl) (IsIn (facts_of w.nodes.list)) (IsIn (facts_of new.nodes.list)) (RecordedIn w.recorded) (RecordedIn new.recorded) met_before
       (leads_new mid new w.slot gone once_mid S (stock slots) free others all_lead) stays rest.up_to_date.are
 
   pub taken : new.due.items ≡ [] → new.work.items ≡ [] → new.agenda ≡ [] → new.slot ≡ w.slot → IsTakenBack slots w new
@@ -67,8 +67,8 @@ module _ (slots : List (Option Assumption)) (w mid new : Update) (rest : IsAtRes
     at_rest = record {
       up_to_date = record {
         settled = (let P : ℕ → Type 0 = λ n. IsSettled (before slots n) (λ g. KeptIn new.nodes (Some g)) (KeptIn new.nodes None) in subst P (sym slot) (settled_alike S (KeptIn w.nodes) (KeptIn new.nodes) same_left rest.up_to_date.settled));
-        are = (let P : ℕ → Type 0 = λ n. AreRecorded (before slots n) (IsIn (facts_of new.nodes.list.items)) All (RecordedIn new.recorded) in subst P (sym slot) are_new);
-        were_met = λ g E k. member_met new.nodes.list.items g E k;
+        are = (let P : ℕ → Type 0 = λ n. AreRecorded (before slots n) (IsIn (facts_of new.nodes.list)) All (RecordedIn new.recorded) in subst P (sym slot) are_new);
+        were_met = λ g E k. member_met new.nodes.list g E k;
         once = once_new mid new w.slot gone once_mid;
       };
       none_due = due;

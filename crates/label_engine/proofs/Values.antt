@@ -1,6 +1,8 @@
 -- The words of a cell that have an environment inside a mask.
-use Rattle.std.proofs.Common.{◌≡◌, ℕ, ◌<◌, ◌≤◌, ◌⊎◌, inl, inr, Bool, ◌&&◌, min, IsTrue, IfSome, refl, sym, ap, subst, ◌∙◌, Option, Some, None, List, [], ◌∷◌, ◌++◌, arith}
-use Rattle.std.proofs.lemmas.Bool.{and_parts, and_from}
+use Rattle.std.proofs.Common.{◌≡◌, ℕ, ◌<◌, ◌≤◌, ◌⊎◌, inl, inr, Bool, ◌&&◌, min, IsTrue, IfSome, refl, sym, ap, subst, ◌∙◌, Option, Some, None, List, length, slice_get, arith}
+use Rattle.std.specs.Option.{option_map}
+use Rattle.std.proofs.lemmas.Bool.{and_parts, and_from, cases_lt}
+use Rattle.std.proofs.lemmas.Option.{slice_get-map, slice_get_within}
 use Rattle.std.proofs.lemmas.Bool.Decides.{nat_tests}
 use Rattle.circuit_model.specs.declared.model.Cell.{Cell}
 use Rattle.circuit_model.specs.declared.model.Fact.{Fact}
@@ -13,10 +15,12 @@ use Rattle.environment_sets.specs.Lists.{IsIn}
 use Rattle.environment_sets.specs.Members.{members, HasMember}
 use Rattle.environment_sets.specs.Sets.{Set, ◌⊆◌, is_within}
 use Rattle.environment_sets.proofs.Counting.{count_by-lt}
-use Rattle.environment_sets.proofs.Listings.{IsIn-push, IsIn-front, IsIn-last}
+use Rattle.environment_sets.proofs.Membership.{IsIn-slice_get, slice_get-IsIn}
 use Rattle.environment_sets.proofs.Within.{holds_within}
-use Rattle.label_engine.specs.declared.node.Node.{Node}
+use Rattle.labelled_nodes.specs.declared.node.Node.{Node}
 use Rattle.label_engine.specs.Engine.{Kept, label_of, kept_of}
+use Rattle.fact_index.specs.Listed.{GivesLast}
+use Rattle.labelled_nodes.specs.Nodes.{facts_of}
 use Rattle.label_engine.specs.Questions.{IsAbove, IsNextNumber, GivesNextNumber, HasInside, is_above, is_left, values_left, IsLeft, IsLeastOf}
 use Rattle.label_engine.proofs.Kept.{kept_member, node_of, of_node}
 
@@ -53,40 +57,79 @@ module _ (P Q : ℕ → Type 0) (last : Option ℕ) (w : ℕ) (stays : (v : ℕ)
         })
       ]
 
--- one node more
-module _ (c : Cell) (mask : Set ℕ) (last : Option ℕ) where
-  abbrev Among : List Node → ℕ → Type 0
-  Among nodes = HasInside (kept_of nodes) c mask
+-- a node from the place on has the cell and the word, and an environment of its label is inside the mask
+pub record HasFrom (nodes : List Node) (c : Cell) (mask : Set ℕ) (from v : ℕ) : Type 0 where
+  pub place : ℕ
+  pub node : Node
+  pub late : from ≤ place
+  pub there : slice_get nodes place ≡ Some node
+  pub named : node.fact ≡ fact c v
+  pub inside : IsCovered (HasMember node.label) mask
 
-  pub none_found : GivesNextNumber (Among []) last None
-  none_found = λ v h _. absurd h.1
+-- what was found is the next word of the nodes from a place on, and the next place is the last one before that with the cell
+pub record AreWalked (nodes : List Node) (c : Cell) (mask : Set ℕ) (last found next : Option ℕ) : Type 0 where
+  pub from : ℕ
+  pub within : from ≤ length nodes
+  pub next_is : GivesLast (facts_of nodes) c from next
+  pub found_is : GivesNextNumber (HasFrom nodes c mask from) last found
 
-  module _ (ns : List Node) (n : Node) where
-    of_label : (v : ℕ) → n.fact ≡ fact c v → IsCovered (HasMember n.label) mask → Among (ns ++ n ∷ []) v
-    of_label v same E =
-        let P : Fact → Type 0 = λ f. IsCovered (HasMember (label_of (kept_of (ns ++ n ∷ [])) f)) mask in
-        subst P same (E.0, of_node (ns ++ n ∷ []) n E.0 (IsIn-last ns n n refl) E.1, E.2)
+-- a walk from the last node of a cell to the one before it
+module _ (nodes : List Node) (c : Cell) (mask : Set ℕ) (last : Option ℕ) where
+  abbrev From : ℕ → ℕ → Type 0
+  From from = HasFrom nodes c mask from
 
-    stays : (v : ℕ) → Among ns v → Among (ns ++ n ∷ []) v
-    stays v E =
-        let m : (m : Node) × IsIn ns m × (m.fact ≡ fact c v) × HasMember m.label E.0 = node_of ns (fact c v) E.0 E.1 in
-        let P : Fact → Type 0 = λ f. IsCovered (HasMember (label_of (kept_of (ns ++ n ∷ [])) f)) mask in
-        subst P m.2 (E.0, of_node (ns ++ n ∷ []) m.0 E.0 (IsIn-front ns n m.0 m.1) m.3, E.2)
+  -- behind all nodes there is none
+  pub begun : (next : Option ℕ) → GivesLast (facts_of nodes) c (length nodes) next → AreWalked nodes c mask last None next
+  begun next gives = record {
+    from = length nodes;
+    within = omega arith;
+    next_is = gives;
+    found_is = λ v h above. let inside : h.place < length nodes = slice_get_within nodes h.place h.node h.there in omega (arith, inside, h.late);
+  }
 
-    split : (v : ℕ) → Among (ns ++ n ∷ []) v → Among ns v ⊎ ((n.fact ≡ fact c v) × IsCovered (HasMember n.label) mask)
-    split v E =
-        let m : (m : Node) × IsIn (ns ++ n ∷ []) m × (m.fact ≡ fact c v) × HasMember m.label E.0 = node_of (ns ++ n ∷ []) (fact c v) E.0 E.1 in
-        elim (IsIn-push ns n m.0 m.1) [
-          | inl before ↦ let P : Fact → Type 0 = λ f. IsCovered (HasMember (label_of (kept_of ns) f)) mask in inl (subst P m.2 (E.0, of_node ns m.0 E.0 before m.3, E.2))
-          | inr here ↦
-              let P : Node → Type 0 = λ x. (x.fact ≡ fact c v) × IsCovered (HasMember x.label) mask in
-              inr (subst P (sym here) (m.2, (E.0, m.3, E.2)))
-        ]
+  module _ (found : Option ℕ) (place : ℕ) (was : AreWalked nodes c mask last found (Some place)) (node : Node) (there : slice_get nodes place ≡ Some node) where
+    -- the node is of the cell
+    pub cell_at : (next : Option ℕ) → GivesLast (facts_of nodes) node.fact.cell place next → GivesLast (facts_of nodes) c place next
+    cell_at next gives =
+        let at : slice_get (facts_of nodes) place ≡ Some node.fact = slice_get-map (λ (n : Node). n.fact) nodes place ∙ ap (option_map (λ (n : Node). n.fact)) there in
+        let same : was.next_is.at.0 ≡ node.fact = (let e : Some was.next_is.at.0 ≡ Some node.fact = sym was.next_is.at.1 ∙ at in cc) in
+        subst (λ (d : Cell). GivesLast (facts_of nodes) d place next) (sym (ap (λ (f : Fact). f.cell) same) ∙ was.next_is.at.2) gives
 
-    pub passed_over : (next : Option ℕ) → (IsLeft c mask last n → ⊥) → GivesNextNumber (Among ns) last next → GivesNextNumber (Among (ns ++ n ∷ [])) last next
-    passed_over next out gives = next_number_alike (Among ns) (Among (ns ++ n ∷ [])) last (λ v _ h. stays v h) back next gives
+    later : (v : ℕ) → From was.from v → From place v
+    later v h = let before : place < was.from = was.next_is.before in record { place = h.place; node = h.node; late = omega (arith, before, h.late); there = h.there; named = h.named; inside = h.inside }
+
+    -- between the two places no node has the cell
+    split : (v : ℕ) → From place v → From was.from v ⊎ ((node.fact ≡ fact c v) × IsCovered (HasMember node.label) mask)
+    split v h = elim (cases_lt h.place was.from) [
+      | inr late ↦ inl (record { place = h.place; node = h.node; late = late; there = h.there; named = h.named; inside = h.inside })
+      | inl early ↦ elim (cases_lt place h.place) [
+        | inl between ↦ absurd (was.next_is.last h.place between early (
+          h.node.fact,
+          slice_get-map (λ (n : Node). n.fact) nodes h.place ∙ ap (option_map (λ (n : Node). n.fact)) h.there,
+          ap (λ (f : Fact). f.cell) h.named,
+        ))
+        | inr low ↦
+            let same : h.place ≡ place = omega (arith, low, h.late) in
+            let at : slice_get nodes place ≡ Some h.node = subst (λ (k : ℕ). slice_get nodes k ≡ Some h.node) same h.there in
+            let one : h.node ≡ node = cc in
+            let P : Node → Type 0 = λ n. (n.fact ≡ fact c v) × IsCovered (HasMember n.label) mask in
+            inr (subst P one (h.named, h.inside))
+      ]
+    ]
+
+    walked : (found next : Option ℕ) → GivesLast (facts_of nodes) c place next → GivesNextNumber (From place) last found → AreWalked nodes c mask last found next
+    walked found next gives is = record {
+      from = place;
+      within = (let before : place < was.from = was.next_is.before in let within : was.from ≤ length nodes = was.within in omega (arith, before, within));
+      next_is = gives;
+      found_is = is;
+    }
+
+    -- where the node is not left, what was found is still the next word
+    pub passed_over : (next : Option ℕ) → GivesLast (facts_of nodes) c place next → (IsLeft c mask last node → ⊥) → AreWalked nodes c mask last found next
+    passed_over next gives out = walked found next gives (next_number_alike (From was.from) (From place) last (λ v _ h. later v h) back found was.found_is)
       where
-        back : (v : ℕ) → IsAbove last v → Among (ns ++ n ∷ []) v → Among ns v
+        back : (v : ℕ) → IsAbove last v → From place v → From was.from v
         back v above h = elim (split v h) [
           | inl before ↦ before
           | inr here ↦
@@ -94,13 +137,45 @@ module _ (c : Cell) (mask : Set ℕ) (last : Option ℕ) where
               absurd (out (record { cell = ap (λ (f : Fact). f.cell) here.0; above = subst P (sym (ap (λ (f : Fact). f.value) here.0)) above; inside = here.1 }))
         ]
 
-    pub taken_in : (next : Option ℕ) (least : ℕ) → IsLeft c mask last n → GivesNextNumber (Among ns) last next → IsLeastOf next n.fact.value least → GivesNextNumber (Among (ns ++ n ∷ [])) last (Some least)
-    taken_in next least left gives is =
-        next_of_more (Among ns) (Among (ns ++ n ∷ [])) last n.fact.value stays
-        (of_label n.fact.value (ap (λ (d : Cell). fact d n.fact.value) left.cell) left.inside)
+    -- where it is left, the lesser of the two is
+    pub taken_in : (next : Option ℕ) (least : ℕ) → GivesLast (facts_of nodes) c place next → IsLeft c mask last node → IsLeastOf found node.fact.value least → AreWalked nodes c mask last (Some least) next
+    taken_in next least gives left is =
+        walked (Some least) next gives (
+        next_of_more (From was.from) (From place) last node.fact.value later
+        (record { place = place; node = node; late = omega arith; there = there; named = ap (λ (d : Cell). fact d node.fact.value) left.cell; inside = left.inside })
         left.above
         (λ v h. elim (split v h) [ inl before ↦ inl before | inr here ↦ inr (ap (λ (f : Fact). f.value) here.0) ])
-        next least gives is
+        found least was.found_is is
+        )
+
+  -- where no node of the cell comes before, all of its nodes have been passed
+  pub all_walked : (found : Option ℕ) → AreWalked nodes c mask last found None → GivesNextNumber (HasInside (kept_of nodes) c mask) last found
+  all_walked found was = next_number_alike (From was.from) (HasInside (kept_of nodes) c mask) last (λ v _ h. kept v h) (λ v _ h. back v h) found was.found_is
+    where
+      kept : (v : ℕ) → From was.from v → HasInside (kept_of nodes) c mask v
+      kept v h =
+          let P : Fact → Type 0 = λ f. IsCovered (HasMember (label_of (kept_of nodes) f)) mask in
+          subst P h.named (h.inside.0, of_node nodes h.node h.inside.0 (IsIn-slice_get nodes h.place h.node h.there) h.inside.1, h.inside.2)
+
+      back : (v : ℕ) → HasInside (kept_of nodes) c mask v → From was.from v
+      back v h =
+          let n : (n : Node) × IsIn nodes n × (n.fact ≡ fact c v) × HasMember n.label h.0 = node_of nodes (fact c v) h.0 h.1 in
+          let at : (k : ℕ) × (slice_get nodes k ≡ Some n.0) = slice_get-IsIn nodes n.0 n.1 in
+          record {
+            place = at.0;
+            node = n.0;
+            late = elim (cases_lt at.0 was.from) [
+              | inl early ↦ absurd (was.next_is at.0 early (
+                n.0.fact,
+                slice_get-map (λ (m : Node). m.fact) nodes at.0 ∙ ap (option_map (λ (m : Node). m.fact)) at.1,
+                ap (λ (f : Fact). f.cell) n.2,
+              ))
+              | inr late ↦ late
+            ];
+            there = at.1;
+            named = n.2;
+            inside = (h.0, n.3, h.2);
+          }
 
 -- the tests
 above_holds : (last : Option ℕ) (v : ℕ) → IsTrue (is_above last v) → IsAbove last v

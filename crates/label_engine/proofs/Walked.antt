@@ -5,11 +5,10 @@ use Rattle.environment_sets.proofs.Membership.{IsIn-append, IsIn-left, IsIn-righ
 use Rattle.environment_sets.specs.declared.environment.Env.{Env}
 use Rattle.environment_sets.specs.Sets.{Set, ◌∪◌, ◌⊆◌}
 use Rattle.environment_sets.specs.Members.{members, HasMember}
-use Rattle.label_engine.specs.declared.node.Insertion.{Insertion}
+use Rattle.label_engine.specs.declared.insertion.Insertion.{Insertion}
 use Rattle.label_engine.specs.declared.update.Pending.{Pending}
 use Rattle.propagation.specs.Propagating.{Target, IsReached}
-use Rattle.label_engine.specs.declared.node.Nodes.{Nodes}
-use Rattle.label_engine.specs.Nodes.{KeptIn}
+use Rattle.labelled_nodes.specs.Nodes.{Labelled, KeptIn}
 use Rattle.label_engine.specs.Update.{made_by, union_of, IsUnion, BeginsUnions, IsAddedOrReached, HasUnionsWith}
 
 member_front : (xs ys : List Env) (E : Set ℕ) → HasMember xs E → HasMember (xs ++ ys) E
@@ -27,12 +26,12 @@ member_either [] y E (inr bad) = absurd bad
 member_either (x ∷ xs) y E (inl e) = inl (inl e)
 member_either (x ∷ xs) y E (inr h) = elim (member_either xs y E h) [ inl a ↦ inl (inr a) | inr b ↦ inr b ]
 
-pub none_yet : (item : Pending) (nodes : Nodes) (old : List Insertion) → HasUnionsWith item nodes [] old old
+pub none_yet : (item : Pending) (nodes : Labelled) (old : List Insertion) → HasUnionsWith item nodes [] old old
 none_yet item nodes old = record { stays = λ d i. i; each = λ E h. absurd h; only = λ d i. inl i }
 
 -- the union with one environment more is due, or reached
 pub one_more :
-    (item : Pending) (nodes : Nodes) (envs : List Env) (env : Env) (old mid new : List Insertion)
+    (item : Pending) (nodes : Labelled) (envs : List Env) (env : Env) (old mid new : List Insertion)
     → HasUnionsWith item nodes envs old mid → IsAddedOrReached item nodes (members env) mid new → HasUnionsWith item nodes (envs ++ env ∷ []) old new
 one_more item nodes envs env old mid new was (inl (d, is, added)) =
     let P : List Insertion → Type 0 = λ l. HasUnionsWith item nodes (envs ++ env ∷ []) old l in
@@ -63,7 +62,7 @@ one_more item nodes envs env old mid new was (inr (same, reached)) =
     })
 
 -- where what all unions have is reached, each of them is
-pub all_reached : (item : Pending) (nodes : Nodes) (envs : List Env) (old : List Insertion) (begun : Insertion) → BeginsUnions item begun → IsReached (KeptIn nodes) begun.target (members begun.env) → HasUnionsWith item nodes envs old old
+pub all_reached : (item : Pending) (nodes : Labelled) (envs : List Env) (old : List Insertion) (begun : Insertion) → BeginsUnions item begun → IsReached (KeptIn nodes) begun.target (members begun.env) → HasUnionsWith item nodes envs old old
 all_reached item nodes envs old begun begins reached = record {
   stays = λ d i. i;
   each = λ E h. inr (

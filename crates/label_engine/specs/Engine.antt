@@ -7,8 +7,8 @@ use Rattle.environment_sets.specs.declared.environment.Env.{Env}
 use Rattle.environment_sets.specs.declared.environment.TheConstants.{SLOTS}
 use Rattle.environment_sets.specs.Sets.{Set}
 use Rattle.environment_sets.specs.Members.{HasMember}
-use Rattle.label_engine.specs.declared.node.Node.{Node}
-use Rattle.label_engine.specs.Nodes.{is_same}
+use Rattle.labelled_nodes.specs.declared.node.Node.{Node}
+use Rattle.labelled_nodes.specs.Nodes.{is_same}
 
 -- an environment that is kept in the label of a fact
 pub record Kept : Type 0 where

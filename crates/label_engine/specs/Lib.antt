@@ -1,4 +1,3 @@
-pub mod Nodes
 pub mod Sources
 pub mod Update
 pub mod Engine

@@ -1,19 +1,16 @@
 -- What is asked of an engine.
-use Rattle.std.specs.Prelude.{◌≡◌, ℕ, ◌-◌, ◌^◌, ◌<◌, ◌≤◌, ◌&&◌, Bool, true, nat_lt, min, Option, Some, None, List, length}
+use Rattle.std.specs.Prelude.{◌≡◌, ℕ, ◌-◌, ◌^◌, ◌<◌, ◌≤◌, ◌&&◌, Bool, true, nat_lt, min, Option, Some, None, List}
 use Rattle.std.specs.List.{count_by}
 use Rattle.circuit_model.specs.declared.model.Cell.{Cell}
-use Rattle.circuit_model.specs.declared.model.Fact.{Fact}
 use Rattle.circuit_model.specs.Closure.{fact}
 use Rattle.circuit_model.specs.Load.{IsLoad}
 use Rattle.circuit_model.specs.Present.{is_cell}
 use Rattle.environment_sets.specs.Families.{IsCovered}
 use Rattle.circuit_model.specs.Stock.{Stock, IsInLabel}
 use Rattle.environment_sets.specs.declared.environment.TheConstants.{SLOTS}
-use Rattle.environment_sets.specs.Lists.{IsRoster}
-use Rattle.environment_sets.specs.Sets.{Set, ◌⊆◌, is_within}
+use Rattle.environment_sets.specs.Sets.{Set, is_within}
 use Rattle.environment_sets.specs.Members.{members, HasMember}
-use Rattle.label_engine.specs.declared.node.Node.{Node}
-use Rattle.label_engine.specs.Nodes.{label_in}
+use Rattle.labelled_nodes.specs.declared.node.Node.{Node}
 use Rattle.label_engine.specs.Engine.{Kept, label_of}
 
 -- where there is no last number, each is above it
@@ -64,12 +61,6 @@ pub record IsLeft (c : Cell) (mask : Set ℕ) (last : Option ℕ) (n : Node) : T
 abbrev pub IsLeastOf : Option ℕ → ℕ → ℕ → Type 0
 IsLeastOf None v least = least ≡ v
 IsLeastOf (Some found) v least = least ≡ min found v
-
--- so many pairs of a fact and an environment of its label are inside the mask
-pub record ArePairs (nodes : List Node) (mask : Set ℕ) (n : ℕ) : Type 0 where
-  pub pairs : List (Fact × Set ℕ)
-  pub exact : IsRoster (λ p. HasMember (label_in nodes p.0) p.1 × (p.1 ⊆ mask)) pairs
-  pub count : n ≡ length pairs
 
 -- a number as it is shown: the greatest one of 64 bits where it is above that
 abbrev pub shown_as : ℕ → ℕ

@@ -14,9 +14,8 @@ use Rattle.environment_sets.specs.Families.{Drops}
 use Rattle.antichains.specs.Completed.{Complete, Lacking}
 use Rattle.propagation.specs.Propagating.{Target, Family, RecordedInference, Leads, All, AreRecorded, IsLone, AreSourced, IsPropagating, IsReached, AgreeWithout, IsPut}
 use Rattle.propagation.specs.Uncovered.{uncovered}
-use Rattle.label_engine.specs.declared.node.Node.{Node}
-use Rattle.label_engine.specs.declared.node.Nodes.{Nodes}
-use Rattle.label_engine.specs.declared.node.Insertion.{Insertion}
+use Rattle.labelled_nodes.specs.declared.node.Node.{Node}
+use Rattle.label_engine.specs.declared.insertion.Insertion.{Insertion}
 use Rattle.inference_search.specs.declared.inferred.Inferred.{Inferred}
 use Rattle.assumption_slots.specs.Slots.{stock}
 use Rattle.inference_search.specs.Inferences.{facts, inference, RecordedIn, IsOnce}
@@ -26,7 +25,7 @@ use Rattle.label_engine.specs.declared.update.Arrival.{Arrival}
 use Rattle.label_engine.specs.declared.update.Pending.{Pending}
 use Rattle.label_engine.specs.declared.update.Completing.{Completing}
 use Rattle.label_engine.specs.declared.update.Update.{Update}
-use Rattle.label_engine.specs.Nodes.{is_same, facts_of, label_in, KeptIn, EachDrops, is_supported, reaches}
+use Rattle.labelled_nodes.specs.Nodes.{Labelled, is_same, facts_of, label_in, KeptIn, EachDrops, is_supported, reaches}
 
 -- the two are the same target
 abbrev pub is_same_target : Target → Target → Bool
@@ -109,8 +108,8 @@ abbrev pub HasComeBy : List Arrival → ℕ → Fact → Set ℕ → Type 0
 HasComeBy agenda k f E = (a : Arrival) × IsIn agenda a × (a.fact ≡ f) × (a.source ≡ Some k) × (members a.env ≡ E)
 
 -- what holds while environments are to be put in, inferences are at hand, and environments that came wait
-pub record Holds (slots : List (Option Assumption)) (slot : ℕ) (nodes : Nodes) (recorded : List Inferred) (due : List Insertion) (work : List Pending) (agenda : List Arrival) : Type 0 where
-  pub propagating : IsPropagating (stock slots) slot (IsIn (facts_of nodes.list.items)) (KeptIn nodes) (RecordedIn recorded) (DueIn due) (IsAtHand work) (HasCome agenda)
+pub record Holds (slots : List (Option Assumption)) (slot : ℕ) (nodes : Labelled) (recorded : List Inferred) (due : List Insertion) (work : List Pending) (agenda : List Arrival) : Type 0 where
+  pub propagating : IsPropagating (stock slots) slot (IsIn (facts_of nodes.list)) (KeptIn nodes) (RecordedIn recorded) (DueIn due) (IsAtHand work) (HasCome agenda)
   pub sourced : AreSourced (stock slots) (KeptIn nodes) (DueBy due) (IsAtHand work) (HasCome agenda) (HasComeBy agenda)
 
 -- it holds of the update
@@ -224,34 +223,34 @@ pub record BeginsUnions (item : Pending) (d : Insertion) : Type 0 where
   pub joined : members d.env ≡ members item.env ∪ made_by item.inferred.maker
 
 -- the item's union with the set is due, or reached already
-abbrev pub IsDueOrReached : Pending → Nodes → List Insertion → Set ℕ → Type 0
+abbrev pub IsDueOrReached : Pending → Labelled → List Insertion → Set ℕ → Type 0
 IsDueOrReached item nodes due E = ((d : Insertion) × IsIn due d × IsUnion item E d) ⊎ IsReached (KeptIn nodes) item.inferred.to (union_of item E)
 
 -- each of the environments is kept at the target
-abbrev pub AreKeptAt : Nodes → Target → List Env → Type 0
+abbrev pub AreKeptAt : Labelled → Target → List Env → Type 0
 AreKeptAt nodes t envs = (E : Set ℕ) → HasMember envs E → KeptIn nodes t E
 
 -- the item's union with the set is due too, or it is reached and what is due stays
-abbrev pub IsAddedOrReached : Pending → Nodes → Set ℕ → List Insertion → List Insertion → Type 0
+abbrev pub IsAddedOrReached : Pending → Labelled → Set ℕ → List Insertion → List Insertion → Type 0
 IsAddedOrReached item nodes E old new = ((d : Insertion) × IsUnion item E d × (new ≡ old ++ d ∷ [])) ⊎ ((new ≡ old) × IsReached (KeptIn nodes) item.inferred.to (union_of item E))
 
 -- with any of the slots, the environment contains a nogood
-abbrev pub IsCompleting : Nodes → Completing → Type 0
+abbrev pub IsCompleting : Labelled → Completing → Type 0
 IsCompleting nodes c = Complete (members c.slots) (HasMember nodes.nogoods) (members c.env)
 
 -- with any of the slots, the environment contains a nogood that lacks the slot, and that stays while the slot is worked in
-abbrev pub StaysCompleting : ℕ → Nodes → Completing → Type 0
+abbrev pub StaysCompleting : ℕ → Labelled → Completing → Type 0
 StaysCompleting slot nodes c = Complete (members c.slots) (Lacking slot (HasMember nodes.nogoods)) (members c.env)
 
 -- what was due still is; a union for each environment of the label is due too, or reached; and nothing else is due
-pub record HasUnionsWith (item : Pending) (nodes : Nodes) (label : List Env) (old new : List Insertion) : Type 0 where
+pub record HasUnionsWith (item : Pending) (nodes : Labelled) (label : List Env) (old new : List Insertion) : Type 0 where
   pub stays : (d : Insertion) → IsIn old d → IsIn new d
   pub each : (E : Set ℕ) → HasMember label E → IsDueOrReached item nodes new E
   pub only : (d : Insertion) → IsIn new d → IsIn old d ⊎ ((E : Set ℕ) × HasMember label E × IsUnion item E d)
 
 -- what was due still is, and the item's unions, with nothing where there is no other fact, and else with each environment of the
 -- other fact's label, are due too, or reached; and nothing else is due
-pub record HasUnions (item : Pending) (nodes : Nodes) (old new : List Insertion) : Type 0 where
+pub record HasUnions (item : Pending) (nodes : Labelled) (old new : List Insertion) : Type 0 where
   pub stays : (d : Insertion) → IsIn old d → IsIn new d
   pub alone : other_fact item.inferred item.at ≡ None → (d : Insertion) × IsIn new d × IsUnion item no_elements d
   pub each : (g : Fact) (E : Set ℕ) → other_fact item.inferred item.at ≡ Some g → KeptIn nodes (Some g) E → IsDueOrReached item nodes new E
@@ -261,11 +260,11 @@ pub record HasUnions (item : Pending) (nodes : Nodes) (old new : List Insertion)
 
 -- what is kept are the labels and the nogoods of the stock, its inferences from facts that were met are recorded, what has an
 -- environment was met, and no fact has two nodes
-pub record AreUpToDate (S : Stock ℕ) (nodes : Nodes) (recorded : List Inferred) : Type 0 where
+pub record AreUpToDate (S : Stock ℕ) (nodes : Labelled) (recorded : List Inferred) : Type 0 where
   pub settled : IsSettled S (λ f. KeptIn nodes (Some f)) (KeptIn nodes None)
-  pub are : AreRecorded S (IsIn (facts_of nodes.list.items)) All (RecordedIn recorded)
-  pub were_met : (f : Fact) (E : Set ℕ) → KeptIn nodes (Some f) E → IsIn (facts_of nodes.list.items) f
-  pub once : AreDistinct (facts_of nodes.list.items)
+  pub are : AreRecorded S (IsIn (facts_of nodes.list)) All (RecordedIn recorded)
+  pub were_met : (f : Fact) (E : Set ℕ) → KeptIn nodes (Some f) E → IsIn (facts_of nodes.list) f
+  pub once : AreDistinct (facts_of nodes.list)
 
 -- all is up to date with the stock, nothing is due, nothing is at hand and nothing waits
 pub record IsAtRest (S : Stock ℕ) (u : Update) : Type 0 where
@@ -292,8 +291,8 @@ pub record CarriesOn (slots : List (Option Assumption)) (old new : Update) : Typ
 -- as before, but the target, where it is a fact, has a node
 pub record IsReady (slots : List (Option Assumption)) (due : Insertion) (old new : Update) : Type 0 where
   pub due_also : DueAlso slots due new
-  pub were_met : (f : Fact) → due.target ≡ Some f → IsIn (facts_of new.nodes.list.items) f
-  pub labels_same : (f : Fact) → label_in new.nodes.list.items f ≡ label_in old.nodes.list.items f
+  pub were_met : (f : Fact) → due.target ≡ Some f → IsIn (facts_of new.nodes.list) f
+  pub labels_same : (f : Fact) → label_in new.nodes.list f ≡ label_in old.nodes.list f
   pub nogoods_same : new.nodes.nogoods ≡ old.nodes.nogoods
   pub due_same : new.due.items ≡ old.due.items
   pub work_same : new.work.items ≡ old.work.items
@@ -313,15 +312,15 @@ MetStay nodes old new = (i : Inferred) → IsIn old i → ((f : Fact) → GoesFr
 pub record Survives (slots : List (Option Assumption)) (old new : Update) : Type 0 where
   pub agrees : AgreesWith old new
   pub same_slot : new.slot ≡ old.slot
-  pub stay : MetStay old.nodes.list.items old.recorded new.recorded
+  pub stay : MetStay old.nodes.list old.recorded new.recorded
   pub lead : AllLead slots old.recorded → AllLead slots new.recorded
-  pub met : (f : Fact) → IsIn (facts_of old.nodes.list.items) f → IsIn (facts_of new.nodes.list.items) f
-  pub once : AreDistinct (facts_of old.nodes.list.items) → AreDistinct (facts_of new.nodes.list.items)
+  pub met : (f : Fact) → IsIn (facts_of old.nodes.list) f → IsIn (facts_of new.nodes.list) f
+  pub once : AreDistinct (facts_of old.nodes.list) → AreDistinct (facts_of new.nodes.list)
 
 -- the environment is put in at its target; to a fact it came
 pub record IsPutThere (due : Insertion) (old new : Update) : Type 0 where
   pub put : IsPut due.target (members due.env) (KeptIn old.nodes) (KeptIn new.nodes)
-  pub met : facts_of new.nodes.list.items ≡ facts_of old.nodes.list.items
+  pub met : facts_of new.nodes.list ≡ facts_of old.nodes.list
   pub agenda : new.agenda ≡ old.agenda ++ arrivals_at due.target due.env due.source
   pub recorded : new.recorded ≡ old.recorded
   pub due_same : new.due.items ≡ old.due.items
@@ -330,7 +329,7 @@ pub record IsPutThere (due : Insertion) (old new : Update) : Type 0 where
 
 -- the labels and the nogoods are as before
 pub record AreKeptAlike (old new : Update) : Type 0 where
-  pub labels : (f : Fact) → label_in new.nodes.list.items f ≡ label_in old.nodes.list.items f
+  pub labels : (f : Fact) → label_in new.nodes.list f ≡ label_in old.nodes.list f
   pub nogoods : new.nodes.nogoods ≡ old.nodes.nogoods
 
 -- of the inferences from facts that were met that use the fact, those that are needed are recorded
@@ -350,8 +349,8 @@ pub record HasSomeUses (slots : List (Option Assumption)) (f : Fact) (old new : 
 
 -- the fact was met: of the inferences that use it, those that are needed are recorded, and all else is as before
 pub record HasMet (slots : List (Option Assumption)) (f : Fact) (old new : Update) : Type 0 where
-  pub recorded : HasRecorded slots (facts_of old.nodes.list.items) f old.recorded new.recorded
-  pub met : facts_of new.nodes.list.items ≡ facts_of old.nodes.list.items ++ f ∷ []
+  pub recorded : HasRecorded slots (facts_of old.nodes.list) f old.recorded new.recorded
+  pub met : facts_of new.nodes.list ≡ facts_of old.nodes.list ++ f ∷ []
   pub due : new.due.items ≡ old.due.items
   pub work : new.work.items ≡ old.work.items
   pub agenda : new.agenda ≡ old.agenda
@@ -379,8 +378,8 @@ IsForgotten slot nodes i = (i.maker ≡ Some slot) ⊎ GoesFromUnsupported nodes
 -- none, and then these nodes
 pub record HasForgotten (slot : ℕ) (old new : Update) : Type 0 where
   pub dropped : List Node
-  pub labels : EachDrops (λ F. IsTrue (F slot)) old.nodes.list.items dropped
-  pub supported : new.nodes.list.items ≡ filter is_supported dropped
+  pub labels : EachDrops (λ F. IsTrue (F slot)) old.nodes.list dropped
+  pub supported : new.nodes.list ≡ filter is_supported dropped
   pub nogoods : Drops (HasMember old.nodes.nogoods) (HasMember new.nodes.nogoods) (λ F. IsTrue (F slot))
   pub recorded : AreWithout (IsForgotten slot dropped) old.recorded new.recorded
   pub due_same : new.due.items ≡ old.due.items

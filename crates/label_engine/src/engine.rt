@@ -11,12 +11,10 @@ ghost use Rattle.circuit_model.specs.Settled.{AreExact};
 ghost use Rattle.assumption_slots.specs.Slots.{stock};
 ghost use Rattle.label_engine.specs.Engine.{label_at, Remembers, Forgets, AreAllTaken, IsAsBefore};
 
-use crate::node::Nodes;
-use crate::nodes::{is_same_fact, no_hints};
 use crate::update::Update;
 use assumption_slots::Slots;
 use circuit_model::{Assumption, Fact};
-use nogood_store::Nogoods;
+use labelled_nodes::{Nodes, is_same_fact};
 use propagation_agenda::{Agenda, Picker};
 use recorded_inferences::Records;
 use std::alloc::{AllocError, Global};
@@ -50,7 +48,7 @@ impl Model for Engine {
 
     ghost Value = { Seen };
 
-    ghost view = { λ e. record { slots = e.slots; kept = kept_of e.update.nodes.list.items; nogoods = e.update.nodes.nogoods } };
+    ghost view = { λ e. record { slots = e.slots; kept = kept_of e.update.nodes.list; nogoods = e.update.nodes.nogoods } };
 
     ghost invariant = { λ e. IsAtRest (stock e.slots) e.update };
 }
@@ -73,12 +71,7 @@ impl Engine {
         ensures exact { IfOk result (λ e. AreExact (stock e.slots) (label_at e) (HasMember e.nogoods)) }
     {
         let slots = Slots::open(alloc)?;
-        let hints = no_hints(alloc)?;
-        let nodes = Nodes {
-            list: Vec::new(alloc),
-            nogoods: Nogoods::new(alloc),
-            hints,
-        };
+        let nodes = Nodes::open(alloc)?;
         let update = Update {
             slot: 0,
             nodes,

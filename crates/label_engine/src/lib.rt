@@ -2,8 +2,7 @@
 #![tactic(auto)]
 
 mod engine;
-mod node;
-mod nodes;
+mod insertion;
 mod questions;
 mod recording;
 mod sources;

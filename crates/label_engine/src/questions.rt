@@ -1,23 +1,22 @@
 // What an engine tells, of all assumptions that it remembers or of those of a mask alone. Only what is handed out as a
 // list takes memory.
 
-ghost use Rattle.std.specs.Prelude.{◌≡◌, ◌↔◌, ℕ, ◌<◌, IfOk, IfSome, IsTrue, Some};
+ghost use Rattle.std.specs.Prelude.{◌≡◌, ◌↔◌, ◌<◌, IfOk, IfSome, IsTrue, Some};
 ghost use Rattle.std.specs.Option.{ForSome, option_map, option_copied};
 ghost use Rattle.environment_sets.specs.declared.environment.TheConstants.{SLOTS};
 ghost use Rattle.environment_sets.specs.Members.{members, sets};
-ghost use Rattle.environment_sets.specs.Lists.{AreDistinct, IsRoster};
+ghost use Rattle.environment_sets.specs.Lists.{IsRoster};
 ghost use Rattle.environment_sets.specs.Orders.{ListsAll, IsOrder};
 ghost use Rattle.environment_sets.specs.Walks.{GivesNext, envs_left};
 ghost use Rattle.circuit_model.specs.Stock.{IsEnvironment, IsInLabel, IsNogood, within};
 ghost use Rattle.assumption_slots.specs.Slots.{stock};
 ghost use Rattle.label_engine.specs.Engine.{label_of, kept_of};
-ghost use Rattle.label_engine.specs.Nodes.{facts_of};
-ghost use Rattle.label_engine.specs.Questions.{GivesNextNumber, HasLabel, HasInside, IsAbove, IsLeft, values_left, IsLeastOf, ArePairs, shown_as, IsLoadShown};
+ghost use Rattle.label_engine.specs.Questions.{GivesNextNumber, HasLabel, HasInside, IsAbove, IsLeft, values_left, IsLeastOf, IsLoadShown};
 
 use crate::engine::Engine;
-use crate::node::Node;
 use circuit_model::{Cell, Fact};
 use environment_sets::Env;
+use labelled_nodes::{Node, Nodes};
 use std::alloc::{AllocError, Global};
 
 impl Engine {
@@ -28,7 +27,7 @@ impl Engine {
         ensures next { GivesNextNumber (HasLabel (within (members mask.now) (stock self.now.slots)) cell) last result }
         ensures falls { IfSome result (λ v. values_left self.now.kept cell (members mask.now) (Some v) < values_left self.now.kept cell (members mask.now) last) }
     {
-        word_after(&self.update.nodes.list, cell, mask, last)
+        word_after(&self.update.nodes, cell, mask, last)
     }
 
     /// The first environment, after the last one, of the fact's label over the assumptions of the mask alone.
@@ -72,14 +71,14 @@ impl Engine {
         ensures next { GivesNext order.now (IsNogood (within (members mask.now) (stock self.now.slots))) (members mask.now) (option_map members (option_copied last.entry)) (option_map members result) }
         ensures falls { IfSome result (λ e. envs_left order.now self.now.nogoods mask.now (Some e) < envs_left order.now self.now.nogoods mask.now (option_copied last.entry)) }
     {
-        self.update.nodes.nogoods.next_after(order, mask, last)
+        self.update.nodes.nogoods().next_after(order, mask, last)
     }
 
     /// All nogoods of the assumptions of the mask alone, each once, in no order that is told.
     pub fn nogoods_within(&self, alloc: Global, mask: &Env) -> Result<Vec<Env>, AllocError>
         ensures { IfOk result (λ found. IsRoster (IsNogood (within (members mask.now) (stock self.now.slots))) (sets found.items)) }
     {
-        self.update.nodes.nogoods.inside(alloc, mask)
+        self.update.nodes.nogoods().inside(alloc, mask)
     }
 
     /// The load of the assumptions of the mask alone: the environments of all labels, and the nogoods. Where there are
@@ -88,8 +87,8 @@ impl Engine {
         requires { IsEnvironment (stock self.now.slots) (members mask.now) }
         ensures { IsLoadShown (within (members mask.now) (stock self.now.slots)) result }
     {
-        let pairs = count_pairs(&self.update.nodes.list, mask);
-        pairs.saturating_add(self.update.nodes.nogoods.count_inside(mask) as u64)
+        let pairs = self.update.nodes.count_inside(mask);
+        pairs.saturating_add(self.update.nodes.nogoods().count_inside(mask) as u64)
     }
 }
 
@@ -120,27 +119,19 @@ fn least_of(found: Option<u64>, value: u64) -> u64
     }
 }
 
-// The least word of the cell above the last one that has an environment inside the mask.
-fn word_after(nodes: &[Node], cell: Cell, mask: &Env, last: Option<u64>) -> Option<u64>
-    ensures { GivesNextNumber (HasInside (kept_of nodes.now) cell (members mask.now)) last result }
+// The least word of the cell above the last one that has an environment inside the mask, in a walk over the words of the cell
+// alone.
+fn word_after(nodes: &Nodes, cell: Cell, mask: &Env, last: Option<u64>) -> Option<u64>
+    ensures { GivesNextNumber (HasInside (kept_of nodes.now.list) cell (members mask.now)) last result }
 {
-    let mut next = None;
-    for node in nodes {
+    let mut found = None;
+    let mut next = nodes.last_at(cell);
+    while let Some(place) = next {
+        let node = &nodes.list()[place];
         if is_left(node, cell, mask, last) {
-            next = Some(least_of(next, node.fact.value));
+            found = Some(least_of(found, node.fact.value));
         }
+        next = nodes.before(place);
     }
-    next
-}
-
-// How many pairs of a fact and an environment of its label are inside the mask.
-fn count_pairs(nodes: &[Node], mask: &Env) -> u64
-    requires { AreDistinct (facts_of nodes.now) }
-    ensures { (n : ℕ) × ArePairs nodes.now (members mask.now) n × (result ≡ shown_as n) }
-{
-    let mut count: u64 = 0;
-    for node in nodes {
-        count = count.saturating_add(node.label.count_inside(mask) as u64);
-    }
-    count
+    found
 }

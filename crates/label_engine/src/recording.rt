@@ -1,15 +1,15 @@
 // Which inferences are recorded. Where one leads to the same as another, by the same maker and from no further fact, the
 // other is not needed: whatever the other gives, it gives too.
 
-ghost use Rattle.std.specs.Prelude.{◌≡◌, ℕ, ◌++◌, [], IfOk, IsTrue, Some, take};
+ghost use Rattle.std.specs.Prelude.{◌≡◌, [], IfOk, IsTrue, Some};
 ghost use Rattle.std.specs.List.{list_any};
 ghost use Rattle.environment_sets.specs.Lists.{IsIn};
 ghost use Rattle.inference_search.specs.declared.inferred.Inferred.{Inferred};
 ghost use Rattle.label_engine.specs.Update.{is_same_target, is_same_maker, goes_from, goes_from_any, says_as_much, CanBeRecorded, AreAlso, HasSomeOf, AreNeeded, IsSaid, IsNeededOrSaid};
 
-use crate::nodes::is_same_fact;
 use circuit_model::Fact;
 use inference_search::Inferred;
+use labelled_nodes::is_same_fact;
 use recorded_inferences::Records;
 use std::alloc::{AllocError, Global};
 

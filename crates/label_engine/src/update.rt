@@ -1,32 +1,34 @@
 // Bringing labels up to date with one assumption more: what follows is inferred until nothing waits.
 
-ghost use Rattle.std.specs.Prelude.{IsTrue, ◌≡◌, ℕ, ◌^◌, ◌<◌, ◌++◌, ◌∷◌, [], List, filter, length, IfOk, IfErr, IfSome, IsSome, Some, map, take};
+ghost use Rattle.std.specs.Prelude.{IsTrue, ◌≡◌, ℕ, ◌^◌, ◌<◌, ◌++◌, [], List, filter, length, IfOk, IfErr, IfSome, IsSome, Some, map};
 ghost use Rattle.std.specs.Option.{ForSome};
 ghost use Rattle.environment_sets.specs.declared.environment.TheConstants.{SLOTS};
 ghost use Rattle.environment_sets.specs.Members.{members, HasMember};
 ghost use Rattle.environment_sets.specs.Sets.{◌∪◌, Hits};
 ghost use Rattle.environment_sets.specs.Lists.{AreDistinct, IsIn};
-ghost use Rattle.environment_sets.specs.Families.{Drops, IsCovered};
+ghost use Rattle.environment_sets.specs.Families.{IsCovered};
 ghost use Rattle.antichains.specs.Completed.{Complete};
 ghost use Rattle.circuit_model.specs.declared.model.Instance.{Instance};
 ghost use Rattle.circuit_model.specs.declared.model.Assumption.TheVariants.{Part, Reading};
 ghost use Rattle.propagation.specs.Uncovered.{Fits, TargetFits};
 ghost use Rattle.propagation.specs.Propagating.{IsReached};
-ghost use Rattle.label_engine.specs.Nodes.{facts_of, KeptIn, IsMet};
+ghost use Rattle.labelled_nodes.specs.Nodes.{Labelled, facts_of, KeptIn, IsMet};
 ghost use Rattle.label_engine.specs.Update.{item_at, items_at, items_to, is_next, ends_in, some_fact, goes_from_none, due_with, items_with, items_from, other_fact, made_by, HasUnions, HasUnionsWith, HasRecorded, HasSomeUses, HasMet, AreKeptAlike, IsPutThere, Propagates, DueAlso, IsAtHandAlso, HasComeAlso, CarriesOn, IsReady, BeginsUnions, IsSourceOf, IsUnion, union_of, AreKeptAt, IsAddedOrReached, Survives, before, IsAtRest, IsTakenBack, HasForgotten, GoesFromUnsupported, IsCompleting, StaysCompleting};
 ghost use Rattle.inference_search.specs.declared.inferred.Inferred.{Inferred};
+ghost use Rattle.inference_search.specs.Found.{AreFound, AreMadeBy};
+ghost use Rattle.inference_search.specs.Inferences.{IsOnce};
 ghost use Rattle.recorded_inferences.specs.Recorded.{AreWithout, GoesFrom};
 ghost use Rattle.assumption_slots.specs.Slots.{stock};
 
-use crate::node::{Insertion, Node, Nodes};
-use crate::nodes::has_support;
+use crate::insertion::Insertion;
 use crate::recording::{is_target, needed_of, record_all};
 use crate::sources::{is_passed, passed_for};
 use assumption_slots::Slots;
 use circuit_model::{Assumption, Fact};
 use environment_sets::Env;
-use inference_search::{Inferred, find_made_by, find_uses};
+use inference_search::{Inferred, cells_near, cells_of, find_made_by, find_uses};
 use label_algebra::Label;
+use labelled_nodes::{Node, Nodes, has_support};
 use propagation_agenda::{Agenda, Picker};
 use recorded_inferences::Records;
 use std::alloc::{AllocError, Global};
@@ -172,7 +174,7 @@ fn bring_at_one(
     nodes: &Nodes,
     inferred: &Inferred,
 ) -> Result<(), AllocError>
-    ensures { IfOk result (λ _. work.new.items ≡ work.old.items ++ items_with nodes.now.list.items inferred.now (some_fact inferred.now)) }
+    ensures { IfOk result (λ _. work.new.items ≡ work.old.items ++ items_with nodes.now.list inferred.now (some_fact inferred.now)) }
 {
     let Some(fact) = fact_of(inferred) else {
         return Ok(());
@@ -189,7 +191,7 @@ fn bring_at_each(
     nodes: &Nodes,
     found: &[Inferred],
 ) -> Result<(), AllocError>
-    ensures { IfOk result (λ _. work.new.items ≡ work.old.items ++ items_from nodes.now.list.items found.now) }
+    ensures { IfOk result (λ _. work.new.items ≡ work.old.items ++ items_from nodes.now.list found.now) }
 {
     for inferred in found {
         bring_at_one(work, nodes, inferred)?;
@@ -307,7 +309,7 @@ fn label_at<'a>(nodes: &'a Nodes, target: &Option<Fact>) -> Option<&'a Label>
 
 // No slots.
 fn none_completing() -> Completing
-    ensures { (slot : ℕ) (nodes : Nodes) → StaysCompleting slot nodes result }
+    ensures { (slot : ℕ) (nodes : Labelled) → StaysCompleting slot nodes result }
 {
     Completing {
         env: Env::empty(),
@@ -345,7 +347,7 @@ fn is_covered(
             return true;
         }
     }
-    if nodes.nogoods.covers_at(&union.env, last.nogood) {
+    if nodes.nogoods().covers_at(&union.env, last.nogood) {
         return true;
     }
     if let Some(slots) = completing {
@@ -353,7 +355,7 @@ fn is_covered(
             return true;
         }
     }
-    if nodes.nogoods.covers_from(&union.env, &mut last.nogood) {
+    if nodes.nogoods().covers_from(&union.env, &mut last.nogood) {
         return true;
     }
     match label {
@@ -454,6 +456,39 @@ fn drop_unsupported_uses(recorded: &mut Records, nodes: &[Node])
     }
 }
 
+// The inferences that use the fact, from it and from facts that were met. The search is handed those that were met near the fact
+// alone.
+fn uses_of(
+    alloc: Global,
+    slots: &Slots,
+    nodes: &Nodes,
+    fact: &Fact,
+) -> Result<Vec<Inferred>, AllocError>
+    ensures exact { IfOk result (λ found. AreFound slots.now (facts_of nodes.now.list) fact.now found.items) }
+    ensures once { IfOk result (λ found. (i : Inferred) → IsIn found.items i → IsOnce i) }
+{
+    let cells = cells_near(alloc, slots, fact.cell)?;
+    let near = nodes.facts_at(alloc, &cells)?;
+    find_uses(alloc, slots, &near, *fact)
+}
+
+// The inferences that the component at the slot makes from facts that were met. The search is handed those at the component's
+// cells alone.
+fn made_at(
+    alloc: Global,
+    slots: &Slots,
+    nodes: &Nodes,
+    slot: u16,
+) -> Result<Vec<Inferred>, AllocError>
+    requires { slot < SLOTS }
+    ensures exact { IfOk result (λ found. AreMadeBy slots.now (facts_of nodes.now.list) slot found.items) }
+    ensures once { IfOk result (λ found. (i : Inferred) → IsIn found.items i → IsOnce i) }
+{
+    let cells = cells_of(alloc, slots, slot)?;
+    let near = nodes.facts_at(alloc, &cells)?;
+    find_made_by(alloc, slots, &near, slot)
+}
+
 // Of the inferences that use the fact, those that are needed are recorded. After an error some of them are.
 fn record_uses(
     recorded: &mut Records,
@@ -462,12 +497,11 @@ fn record_uses(
     nodes: &Nodes,
     fact: &Fact,
 ) -> Result<(), AllocError>
-    ensures ok { IfOk result (λ _. HasRecorded slots.now (facts_of nodes.now.list.items) fact.now recorded.old recorded.new) }
+    ensures ok { IfOk result (λ _. HasRecorded slots.now (facts_of nodes.now.list) fact.now recorded.old recorded.new) }
     ensures some { HasSomeUses slots.now fact.now recorded.old recorded.new }
 {
     slots_fit(slots);
-    let met = nodes.met(alloc)?;
-    let found = find_uses(alloc, slots, &met, *fact)?;
+    let found = uses_of(alloc, slots, nodes, fact)?;
     let needed = needed_of(alloc, recorded, &found)?;
     record_all(recorded, &needed)
 }
@@ -476,7 +510,7 @@ impl Update {
     // The fact is met, which it was not: of the inferences that use it, those that are needed are recorded. After an error
     // some of them are.
     fn try_to_meet(&mut self, alloc: Global, slots: &Slots, fact: &Fact) -> Result<(), AllocError>
-        requires { IsMet self.old.nodes.list.items fact.now → ⊥ }
+        requires { IsMet self.old.nodes.list fact.now → ⊥ }
         ensures ok { IfOk result (λ _. HasMet slots.now fact.now self.old self.new) }
         ensures survives { Survives slots.now self.old self.new }
         ensures kept { AreKeptAlike self.old self.new }
@@ -487,7 +521,7 @@ impl Update {
 
     // The same, but after an error none that uses the fact is recorded.
     fn meet(&mut self, alloc: Global, slots: &Slots, fact: &Fact) -> Result<(), AllocError>
-        requires { IsMet self.old.nodes.list.items fact.now → ⊥ }
+        requires { IsMet self.old.nodes.list fact.now → ⊥ }
         ensures ok { IfOk result (λ _. HasMet slots.now fact.now self.old self.new) }
         ensures err { IfErr result (λ _. (i : Inferred) → IsIn self.new.recorded i → GoesFrom fact.now i → ⊥) }
         ensures survives { Survives slots.now self.old self.new }
@@ -502,12 +536,12 @@ impl Update {
 
     // What is due is put in. At a fact it waits for the inferences from there.
     fn put_there(&mut self, due: &Insertion) -> Result<(), AllocError>
-        requires met { (f : Fact) → due.now.target ≡ Some f → IsMet self.old.nodes.list.items f }
+        requires met { (f : Fact) → due.now.target ≡ Some f → IsMet self.old.nodes.list f }
         requires out { IsReached (KeptIn self.old.nodes) due.now.target (members due.now.env) → ⊥ }
         ensures ok { IfOk result (λ _. IsPutThere due.now self.old self.new) }
         ensures err { IfErr result (λ _. AreKeptAlike self.old self.new) }
         ensures recorded { self.new.recorded ≡ self.old.recorded }
-        ensures met { facts_of self.new.nodes.list.items ≡ facts_of self.old.nodes.list.items }
+        ensures met { facts_of self.new.nodes.list ≡ facts_of self.old.nodes.list }
         ensures slot { self.new.slot ≡ self.old.slot }
     {
         if let Some(fact) = &due.target {
@@ -517,7 +551,7 @@ impl Update {
                 source: due.source,
             })?;
         }
-        self.nodes.put(due)
+        self.nodes.put(&due.target, &due.env)
     }
 
     // Where the target is a fact that was not met, it is met.
@@ -548,7 +582,7 @@ impl Update {
         ensures work_same { IfOk result (λ _. self.new.work.items ≡ self.old.work.items) }
         ensures survives { Survives slots.now self.old self.new }
     {
-        if self.nodes.reaches(due) {
+        if self.nodes.reaches(&due.target, &due.env) {
             return Ok(());
         }
         self.meet_target(alloc, slots, due)?;
@@ -621,7 +655,7 @@ impl Update {
     {
         Completing {
             env: *env,
-            slots: self.nodes.nogoods.completing(env, self.slot),
+            slots: self.nodes.nogoods().completing(env, self.slot),
         }
     }
 
@@ -658,7 +692,7 @@ impl Update {
     ) -> Result<(), AllocError>
         requires below { self.old.slot < SLOTS }
         requires propagates { Propagates slots.now self.old }
-        requires once { AreDistinct (facts_of self.old.nodes.list.items) }
+        requires once { AreDistinct (facts_of self.old.nodes.list) }
         ensures ok { IfOk result (λ _. IsAtRest (stock slots.now) self.new) }
         ensures survives { Survives slots.now self.old self.new }
     {
@@ -699,8 +733,7 @@ impl Update {
         ensures survives { Survives slots.now self.old self.new }
     {
         slots_fit(slots);
-        let met = self.nodes.met(alloc)?;
-        let found = find_made_by(alloc, slots, &met, self.slot)?;
+        let found = made_at(alloc, slots, &self.nodes, self.slot)?;
         let needed = needed_of(alloc, &self.recorded, &found)?;
         record_all(&mut self.recorded, &needed)?;
         let env = made_by(Some(self.slot));
@@ -770,7 +803,7 @@ impl Update {
     {
         self.nodes.drop_slot(slot);
         self.recorded.drop_made_by(slot);
-        drop_unsupported_uses(&mut self.recorded, &self.nodes.list);
+        drop_unsupported_uses(&mut self.recorded, self.nodes.list());
         self.nodes.drop_unsupported();
     }
 }

@@ -1,9 +1,10 @@
 use Rattle.std.proofs.Common.{ℕ, List, ◌+◌, sym, subst, arith}
-use Rattle.antichains.proofs.Blocks.{AreSharedBelow, none_shared, one_more_shared, all_shared}
+use Rattle.antichains.specs.Signed.{AreSharedBelow}
+use Rattle.antichains.proofs.Blocks.{fewer_shared, one_more_shared, all_shared}
 use Rattle.antichains.proofs.signed_list.write_shared.Goals as goal
 
 pub loop-place-init : goal.loop-place-init
-loop-place-init c = none_shared c.args.signatures.now c.args.shared.now c.requires
+loop-place-init c = fewer_shared c.args.signatures.now c.args.shared.now c.args.from _ (omega arith) c.requires
 
 pub share-requires : goal.share-requires
 share-requires c = omega (arith, c.loop-place.invariant.blocks, c.loop-place-test.true)

@@ -1,4 +1,4 @@
-use Rattle.antichains.proofs.Blocks.{AreSharedBelow}
+use Rattle.antichains.specs.Signed.{AreSharedBelow}
 use Rattle.antichains.proofs.signed_list.write_shared.Given as goal
 
 abbrev pub invariant-loop-place : goal.invariant-loop-place

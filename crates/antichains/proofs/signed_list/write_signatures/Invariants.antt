@@ -1,5 +1,5 @@
 use Rattle.environment_sets.specs.Signatures.{signature}
-use Rattle.antichains.proofs.Signing.{AreWritten}
+use Rattle.antichains.specs.Signed.{AreWritten}
 use Rattle.antichains.proofs.signed_list.write_signatures.Given as goal
 
 abbrev pub invariant-loop-place : goal.invariant-loop-place

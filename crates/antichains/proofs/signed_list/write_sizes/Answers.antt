@@ -1,10 +1,6 @@
-use Rattle.std.proofs.Common.{sym}
 use Rattle.antichains.specs.Signed.{size_of}
-use Rattle.antichains.proofs.Signing.{none_written, one_more_written, all_written}
+use Rattle.antichains.proofs.Signing.{one_more_written, all_written}
 use Rattle.antichains.proofs.signed_list.write_sizes.Goals as goal
-
-pub loop-place-init : goal.loop-place-init
-loop-place-init c = none_written size_of c.args.list.now c.args.sizes.now (sym c.requires)
 
 pub loop-place-preserved : goal.loop-place-preserved
 loop-place-preserved c =

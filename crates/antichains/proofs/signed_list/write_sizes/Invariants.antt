@@ -1,5 +1,5 @@
 use Rattle.antichains.specs.Signed.{size_of}
-use Rattle.antichains.proofs.Signing.{AreWritten}
+use Rattle.antichains.specs.Signed.{AreWritten}
 use Rattle.antichains.proofs.signed_list.write_sizes.Given as goal
 
 abbrev pub invariant-loop-place : goal.invariant-loop-place

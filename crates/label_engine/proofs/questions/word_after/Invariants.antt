@@ -1,8 +1,10 @@
-use Rattle.std.proofs.Common.{take}
 use Rattle.environment_sets.specs.Members.{members}
-use Rattle.label_engine.specs.Engine.{kept_of}
-use Rattle.label_engine.specs.Questions.{GivesNextNumber, HasInside}
+use Rattle.fact_index.specs.Links.{past}
+use Rattle.label_engine.proofs.Values.{AreWalked}
 use Rattle.label_engine.proofs.questions.word_after.Given as goal
 
-abbrev pub invariant-loop-node : goal.invariant-loop-node
-invariant-loop-node l = GivesNextNumber (HasInside (kept_of (take l.node-index l.nodes)) l.cell (members l.mask)) l.last l.next
+abbrev pub invariant-loop-next : goal.invariant-loop-next
+invariant-loop-next l = AreWalked l.nodes.list l.cell (members l.mask) l.last l.found l.next
+
+abbrev pub decreases-loop-next : goal.decreases-loop-next
+decreases-loop-next l = past l.next

@@ -15,8 +15,8 @@ loop-env-preserved c =
     let label : List Env = c.args.label.now in
     let i : ℕ = c.loop-env.env-index in
     let env : Env = c.env-item.result in
-    let low : i < length label = (let P : List Env → Type 0 = λ l. i < length l in subst P c.members-env-items.ensures c.loop-env-test.true) in
-    let at : get_or label i env ≡ env = (let P : List Env → Type 0 = λ l. get_or l i env ≡ env in subst P c.members-env-items.ensures (sym c.env-item.is)) in
+    let low : i < length label = (let P : List Env → Type 0 = λ l. i < length l in subst P c.members-env-items.ensures.all c.loop-env-test.true) in
+    let at : get_or label i env ≡ env = (let P : List Env → Type 0 = λ l. get_or l i env ≡ env in subst P c.members-env-items.ensures.all (sym c.env-item.is)) in
     let front : take (i + 1) label ≡ take i label ++ env ∷ [] = take_more label i env low ∙ ap (λ (e : Env). take i label ++ e ∷ []) at in
     rw front (one_more c.args.item.now c.args.nodes.now (take i label) env c.args.due.now.items c.loop-env.due.items c.add_union.new.due.items c.loop-env.invariant c.in_ok-add_union.ensures)
 
@@ -25,7 +25,7 @@ add_union-requires-clause-completing c = λ slots is. c.completing_with-completi
 
 pub returns : goal.returns
 returns c =
-    let whole : take c.loop-env.env-index c.args.label.now ≡ c.args.label.now = take_all c.loop-env.env-index c.args.label.now (rw (← c.members-env-items.ensures) c.loop-env-test.false) in
+    let whole : take c.loop-env.env-index c.args.label.now ≡ c.args.label.now = take_all c.loop-env.env-index c.args.label.now (rw (← c.members-env-items.ensures.all) c.loop-env-test.false) in
     let P : List Env → Type 0 = λ l. HasUnionsWith c.args.item.now c.args.nodes.now l c.args.due.now.items c.loop-env.due.items in
     subst P whole c.loop-env.invariant
 

@@ -1,8 +1,8 @@
 use Rattle.std.proofs.Common.{◌+◌, take, sym, ap, subst, ◌∙◌}
 use Rattle.recorded_inferences.specs.declared.records.Records.{Records}
 use Rattle.recorded_inferences.specs.Recorded.{GoesFrom, AreWithout}
-use Rattle.label_engine.specs.declared.node.Node.{Node}
-use Rattle.label_engine.specs.Nodes.{is_supported}
+use Rattle.labelled_nodes.specs.declared.node.Node.{Node}
+use Rattle.labelled_nodes.specs.Nodes.{is_supported}
 use Rattle.label_engine.specs.Update.{GoesFromUnsupported}
 use Rattle.label_engine.proofs.Noted.{dropped_one, passed_one, none_dropped, all_dropped}
 use Rattle.label_engine.proofs.update.drop_unsupported_uses.Goals as goal

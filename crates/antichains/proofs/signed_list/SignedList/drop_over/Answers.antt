@@ -1,18 +1,35 @@
-use Rattle.std.proofs.Common.{rules, true≢false, sym, ap, ◌∙◌}
+use Rattle.std.proofs.Common.{rules, ◌≡◌, ◌<◌, ◌≤◌, ℕ, Bool, true, filter, get_or, length, map, Some, List, sym, ap, subst, ◌∙◌, arith}
+use Rattle.std.specs.List.{slice_get}
 use Rattle.std.proofs.lemmas.Fn.{filter_same}
+use Rattle.std.proofs.lemmas.Option.{slice_get_within}
 use Rattle.environment_sets.specs.declared.environment.Env.{Env}
 use Rattle.environment_sets.specs.Members.{members}
-use Rattle.antichains.proofs.Changes.{leaves_out, holds_leaves_out}
+use Rattle.environment_sets.specs.Signatures.{signature}
+use Rattle.environment_sets.proofs.Membership.{slice_get-IsIn}
+use Rattle.antichains.specs.Signed.{size_of}
 use Rattle.antichains.proofs.Larger.{filter_keeps}
-use Rattle.antichains.proofs.Signing.{inside_in}
+use Rattle.antichains.proofs.Signing.{front_left, front_mapped}
+use Rattle.antichains.proofs.Changes.{leaves_out, holds_leaves_out}
 use Rattle.antichains.proofs.signed_list.SignedList.drop_over.Goals as goal
 
-pub returns-then-is_inside_a_member-clause-left : goal.returns-then-is_inside_a_member-clause-left
-returns-then-is_inside_a_member-clause-left c =
-    ap (λ v. v.items) c.sign.ensures.same ∙ filter_same _ (λ (e : Env). leaves_out c.args.env.now (members e)) _ (λ x b q k. search rules) _ _ c.retain.ensures.filtered
+pub sign_from-requires-clause-front : goal.sign_from-requires-clause-front
+sign_from-requires-clause-front c =
+    let old = c.args.self.now.list.items in
+    let first = c.in-Some.first in
+    let test : Env → Bool = λ (e : Env). leaves_out c.args.env.now (members e) in
+    let left : c.retain.new.self.items ≡ filter test old = filter_same _ test _ (λ x b q k. search rules) _ _ c.retain.ensures.filtered in
+    let inside : first ≤ length old = let low : c.in-Some.first < length old = c.in-Some.ensures.inside in omega (arith, low) in
+    let passes : (k : ℕ) (e : Env) → k < first → slice_get old k ≡ Some e → test e ≡ true = λ k e low at. holds_leaves_out c.args.env.now (members e) (c.in-Some.ensures.none k e low at) in
+    record {
+      within = subst (λ (es : List Env). first ≤ length es) (sym left) (front_left test old first inside passes);
+      signatures = λ k low. ap (λ ws. get_or ws k 0) c.requires.signatures ∙ (front_mapped test signature old first inside passes k low ∙ ap (λ (es : List Env). get_or (map signature es) k 0) (sym left));
+      sizes = λ k low. ap (λ ws. get_or ws k 0) c.requires.sizes ∙ (front_mapped test size_of old first inside passes k low ∙ ap (λ (es : List Env). get_or (map size_of es) k 0) (sym left));
+    }
 
-pub returns-else-is_inside_a_member-clause-left : goal.returns-else-is_inside_a_member-clause-left
-returns-else-is_inside_a_member-clause-left c =
-    let env = c.args.env.now in
-    let es = c.args.self.now.list.items in
-    sym (filter_keeps (λ (e : Env). leaves_out env (members e)) es (λ e there. holds_leaves_out env (members e) (λ within. true≢false (sym (c.is_inside_a_member.ensures.1 (inside_in env es e there within)) ∙ c.if-is_inside_a_member.false))))
+pub returns-in-Some-clause-left : goal.returns-in-Some-clause-left
+returns-in-Some-clause-left c = ap (λ v. v.items) c.sign_from.ensures.same ∙ filter_same _ (λ (e : Env). leaves_out c.args.env.now (members e)) _ (λ x b q k. search rules) _ _ c.retain.ensures.filtered
+
+pub returns-in_default-clause-left : goal.returns-in_default-clause-left
+returns-in_default-clause-left c =
+    let old = c.args.self.now.list.items in
+    sym (filter_keeps (λ (e : Env). leaves_out c.args.env.now (members e)) old (λ e there. let at : (k : ℕ) × (slice_get old k ≡ Some e) = slice_get-IsIn old e there in holds_leaves_out c.args.env.now (members e) (c.in_default.ensures at.0 e (slice_get_within old at.0 e at.1) at.1)))

@@ -1,7 +1,7 @@
 use Rattle.std.proofs.Common.{true≢false, sym, ◌∙◌}
 use Rattle.environment_sets.specs.Members.{members}
 use Rattle.propagation.specs.Propagating.{IsReached}
-use Rattle.label_engine.specs.Nodes.{KeptIn}
+use Rattle.labelled_nodes.specs.Nodes.{KeptIn}
 use Rattle.label_engine.proofs.Pieces.{carries_reached, agrees_put_there, carries_put, survives_then, survives_same, agrees_same}
 use Rattle.label_engine.proofs.update.Update.put_in.Goals as goal
 

@@ -1,0 +1,9 @@
+use Rattle.circuit_model.specs.declared.model.Cell.{Cell}
+use Rattle.circuit_model.specs.declared.model.Instance.{Instance}
+use Rattle.environment_sets.specs.Lists.{IsIn}
+use Rattle.inference_search.specs.Near.{AreAdded}
+use Rattle.inference_search.proofs.Adding.{HasBefore}
+use Rattle.inference_search.proofs.near.add_part_cells.Given as goal
+
+abbrev pub invariant-loop-index : goal.invariant-loop-index
+invariant-loop-index l = AreAdded (HasBefore l.part (λ (i : Instance) (d : Cell). IsIn i.cells d) l.index) l.fn.cells.items l.cells.items

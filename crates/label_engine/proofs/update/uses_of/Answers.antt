@@ -1,0 +1,14 @@
+use Rattle.std.proofs.Common.{List, subst}
+use Rattle.circuit_model.specs.declared.model.Cell.{Cell}
+use Rattle.inference_search.proofs.Nearby.{found_near}
+use Rattle.labelled_nodes.specs.Nodes.{facts_of, AreFactsAt}
+use Rattle.label_engine.proofs.Pieces.{IfOk-map}
+use Rattle.label_engine.proofs.update.uses_of.Goals as goal
+
+pub returns-clause-exact : goal.returns-clause-exact
+returns-clause-exact c =
+    let met = facts_of c.args.nodes.now.list in
+    let at : AreFactsAt met c.in_ok-cells.cells.items c.in_ok-near.near.items = subst (λ (l : List Cell). AreFactsAt met l c.in_ok-near.near.items) c.deref.ensures.value c.in_ok-near.ensures in
+    IfOk-map c.find_uses.result
+    (λ x is. found_near c.args.slots.now met c.in_ok-near.near.items c.args.fact.now (λ g there near. (at g).1 (there, (c.in_ok-cells.ensures.exact g.cell).1 near)) x.items (rw (← c.deref-2.ensures.value) is))
+    c.find_uses.ensures.exact
